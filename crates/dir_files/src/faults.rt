@@ -1,0 +1,108 @@
+//! When the calls of a port fail.
+
+ghost use Rattle.std.specs.Prelude.{◌≡◌, ◌≤◌, ◌+◌, ◌-◌, ◌^◌, [], true, min, drop, slice_get, if◌then◌else◌};
+ghost use Rattle.dir_files.specs.Plans.{fails, is_sound};
+
+use std::alloc::Global;
+
+/// Which calls of one port fail: the listed ones, counted from 1, and every call whose number is at least `from`.
+#[derive(Debug, Drop)]
+pub struct FaultPlan {
+    pub calls: Vec<u64>,
+    pub from: u64,
+}
+
+/// The plan of a port, those that its forks will follow, and how many calls were made and failed.
+#[derive(Debug, Drop)]
+pub struct Faults {
+    pub plan: Option<FaultPlan>,
+    pub forks: Vec<FaultPlan>,
+    pub calls: u64,
+    pub count: u64,
+}
+
+/// The first plan, if there is one.
+fn first_plan(plans: &mut Vec<FaultPlan>) -> Option<FaultPlan>
+    ensures first { result ≡ slice_get plans.old.items 0 }
+    ensures rest { plans.new.items ≡ drop 1 plans.old.items }
+{
+    if plans.is_empty() {
+        None
+    } else {
+        Some(plans.remove(0))
+    }
+}
+
+impl Faults {
+    /// Of a port that follows the first plan, and whose forks follow the others.
+    pub fn new(mut plans: Vec<FaultPlan>) -> Faults
+        ensures plan { result.plan ≡ slice_get plans.items 0 }
+        ensures forks { result.forks.items ≡ drop 1 plans.items }
+        ensures calls { result.calls ≡ 0 }
+        ensures count { result.count ≡ 0 }
+        ensures sound { plans.items ≡ [] → is_sound result ≡ true }
+    {
+        let plan = first_plan(&mut plans);
+        Faults {
+            plan,
+            forks: plans,
+            calls: 0,
+            count: 0,
+        }
+    }
+
+    /// Of a fork, which takes the next plan.
+    pub fn fork(&mut self, alloc: Global) -> Faults
+        ensures fork_plan { result.plan ≡ slice_get self.old.forks.items 0 }
+        ensures fork_forks { result.forks.items ≡ [] }
+        ensures fresh_calls { result.calls ≡ 0 }
+        ensures fresh { result.count ≡ 0 }
+        ensures fresh_sound { is_sound self.old ≡ true → is_sound result ≡ true }
+        ensures forks { self.new.forks.items ≡ drop 1 self.old.forks.items }
+        ensures plan { self.new.plan ≡ self.old.plan }
+        ensures calls { self.new.calls ≡ self.old.calls }
+        ensures kept { self.new.count ≡ self.old.count }
+        ensures stays_sound { is_sound self.old ≡ true → is_sound self.new ≡ true }
+    {
+        let plan = first_plan(&mut self.forks);
+        Faults {
+            plan,
+            forks: Vec::new(alloc),
+            calls: 0,
+            count: 0,
+        }
+    }
+
+    /// Adds the faults of another port.
+    pub fn adopt(&mut self, other: Faults)
+        ensures plan { self.new.plan ≡ self.old.plan }
+        ensures forks { self.new.forks ≡ self.old.forks }
+        ensures calls { self.new.calls ≡ self.old.calls }
+        ensures added { self.new.count ≡ min (self.old.count + other.count) (2 ^ 64 - 1) }
+        ensures kept { self.old.count ≤ self.new.count }
+        ensures stays_sound { is_sound self.old ≡ true → is_sound other ≡ true → is_sound self.new ≡ true }
+    {
+        self.count = self.count.saturating_add(other.count);
+    }
+
+    /// Counts a call, and answers whether it fails.
+    pub fn strikes(&mut self) -> bool
+        ensures planned { result ≡ fails self.old.plan self.new.calls }
+        ensures calls { self.new.calls ≡ min (self.old.calls + 1) (2 ^ 64 - 1) }
+        ensures plan { self.new.plan ≡ self.old.plan }
+        ensures forks { self.new.forks ≡ self.old.forks }
+        ensures count { self.new.count ≡ (if result then min (self.old.count + 1) (2 ^ 64 - 1) else self.old.count) }
+        ensures kept { self.old.count ≤ self.new.count }
+        ensures stays_sound { is_sound self.old ≡ true → is_sound self.new ≡ true }
+    {
+        self.calls = self.calls.saturating_add(1);
+        let struck = match &self.plan {
+            None => false,
+            Some(plan) => self.calls >= plan.from || plan.calls.contains(&self.calls),
+        };
+        if struck {
+            self.count = self.count.saturating_add(1);
+        }
+        struck
+    }
+}

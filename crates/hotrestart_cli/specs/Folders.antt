@@ -1,0 +1,97 @@
+-- What a session finds in a folder, and what it leaves there.
+use Rattle.std.specs.Prelude.{◌≡◌, ◌⊎◌, ℕ, ◌<◌, ◌≤◌, ◌^◌, Bool, true, false, List, length, Option, Some, None, IsSome}
+use Rattle.std.specs.FinMap.{empty}
+use Rattle.hr_base.specs.declared.name.ChunkName.{ChunkName}
+use Rattle.dir_files.specs.Ports.{Port}
+use Rattle.dir_files.specs.Images.{Image, IsImage}
+use Rattle.script_text.specs.declared.line.Line.{Line}
+use Rattle.partition_writer.specs.Accounts.{fresh_account}
+use Rattle.partition_writer.specs.Restarts.{SurvivesCrash}
+use Rattle.hotrestart_cli.specs.declared.ended.Ended.{Ended}
+use Rattle.script_text.specs.Lines.{IsScript, IsFirstBad}
+use Rattle.script_text.specs.Replies.{replies}
+use Rattle.hotrestart_cli.specs.declared.ended.Ended.TheVariants.{Whole, Words, TooLong, Line as BadLine, Input, Sink, Disk, NotBuilt, Memory}
+use Rattle.hotrestart_cli.specs.Outcome.{Takes, Tells, last_line}
+use Rattle.hotrestart_cli.specs.Session.{TextAt, account_at}
+
+-- no handle is out, and none came back that was given out elsewhere
+pub record IsCalm (port : Port) : Type 0 where
+  pub lent : (name : ChunkName) → port.lent name ≡ false
+  pub foreign : (name : ChunkName) → port.foreign name ≡ false
+
+-- and no file is here or may come back
+pub record IsVacant (port : Port) : Type 0 where
+  pub calm : IsCalm port
+  pub held : (name : ChunkName) → port.held name ≡ None
+  pub gone : (name : ChunkName) → port.gone name ≡ None
+
+-- The session was refused before it began: nothing was written, and every crash leaves what it might have left before.
+pub record NotBegun (tells : Bool) (old new : Port) (before now : Option (List ℕ)) (ended : Ended) : Type 0 where
+  pub unfinished : ended ≡ Whole → ⊥
+  pub silent : now ≡ before
+  pub images : tells ≡ true → (image : Image) → IsImage new.held new.gone image → IsImage old.held old.gone image
+
+-- The session began, over a folder without chunk files.
+pub record Session (tells : Bool) (lines : List Line) (old new : Port) (before now : Option (List ℕ)) (ended : Ended) : Type 0 where
+  -- so many lines were answered, all of them where it was done to its end
+  pub count : ℕ
+  pub within : count ≤ length lines
+  pub all : ended ≡ Whole → count ≡ length lines
+  -- the replies that were written
+  pub text : TextAt ended lines count empty before now
+  -- no chunk file was there
+  pub fresh : tells ≡ true → (name : ChunkName) → old.held name ≡ None
+  -- every crash leaves each key its state after a number of its own commands, which holds all that was synced
+  pub survives : tells ≡ true → let a = account_at ended lines count (fresh_account empty) in SurvivesCrash new.held new.gone 1 0 a.durable a.tail
+
+abbrev pub Ran : Bool → List Line → Port → Port → Option (List ℕ) → Option (List ℕ) → Ended → Type 0
+Ran tells lines old new before now ended = NotBegun tells old new before now ended ⊎ Session tells lines old new before now ended
+
+-- where the source tells its bytes, they are the script of these lines
+abbrev pub IsScriptOf : Option (List ℕ) → List Line → Type 0
+IsScriptOf None lines = Unit {0}
+IsScriptOf (Some bytes) lines = IsScript 1 bytes lines
+
+abbrev pub IsTooLong : Option (List ℕ) → Type 0
+IsTooLong None = Unit {0}
+IsTooLong (Some bytes) = 2 ^ 25 < length bytes
+
+abbrev pub IsBadAt : Option (List ℕ) → ℕ → Type 0
+IsBadAt None number = Unit {0}
+IsBadAt (Some bytes) number = (length bytes ≤ 2 ^ 25) × IsFirstBad 1 bytes number
+
+-- why a session ended so, and what it left before its last line
+abbrev pub Because : Bool → Bool → Option (List ℕ) → Port → Port → Option (List ℕ) → Option (List ℕ) → Ended → Type 0
+Because tells play left old new before mid Words = (play ≡ false) × NotBegun tells old new before mid Words
+Because tells play left old new before mid TooLong = (play ≡ true) × IsTooLong left × NotBegun tells old new before mid TooLong
+Because tells play left old new before mid (BadLine number) = (play ≡ true) × IsBadAt left number × NotBegun tells old new before mid (BadLine number)
+Because tells play left old new before mid Input = (play ≡ true) × NotBegun tells old new before mid Input
+Because tells play left old new before mid Memory = (play ≡ true) × (NotBegun tells old new before mid Memory ⊎ ((lines : List Line) × IsScriptOf left lines × Ran tells lines old new before mid Memory))
+Because tells play left old new before mid Whole = (play ≡ true) × ((lines : List Line) × IsScriptOf left lines × Ran tells lines old new before mid Whole)
+Because tells play left old new before mid Sink = (play ≡ true) × ((lines : List Line) × IsScriptOf left lines × Ran tells lines old new before mid Sink)
+Because tells play left old new before mid Disk = (play ≡ true) × ((lines : List Line) × IsScriptOf left lines × Ran tells lines old new before mid Disk)
+Because tells play left old new before mid (NotBuilt name) = (play ≡ true) × ((lines : List Line) × IsScriptOf left lines × Ran tells lines old new before mid (NotBuilt name))
+
+-- What the program did: how its session ended, what was taken before the last line, and how the end was told.
+pub record Served (tells play : Bool) (left : Option (List ℕ)) (old new : Port) (before now : Option (List ℕ)) (status : ℕ) : Type 0 where
+  pub ended : Ended
+  pub mid : Option (List ℕ)
+  pub because : Because tells play left old new before mid ended
+  pub told : Tells ended status mid now
+
+-- All lines of the script were done, and their replies were taken: those of a plain finite map.
+pub record WasDone (left before now : Option (List ℕ)) : Type 0 where
+  pub lines : List Line
+  pub script : IsScriptOf left lines
+  pub text : Takes before now (replies lines empty)
+
+-- The script was refused, and told so: as too long, or by the number of the first line that is none of the grammar.
+abbrev pub WasRefused : Option (List ℕ) → Option (List ℕ) → Option (List ℕ) → Type 0
+WasRefused left before now =
+    (IsTooLong left × Takes before now (last_line TooLong)) ⊎ ((number : ℕ) × IsBadAt left number × Takes before now (last_line (BadLine number)))
+
+-- The folder held a chunk file, and that was told.
+pub record WasNotBuilt (port : Port) (before now : Option (List ℕ)) : Type 0 where
+  pub name : ChunkName
+  pub held : IsSome (port.held name)
+  pub text : Takes before now (last_line (NotBuilt name))

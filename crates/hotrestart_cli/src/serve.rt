@@ -1,0 +1,82 @@
+//! The top call.
+
+ghost use Rattle.std.specs.Prelude.{◌≡◌, ◌≤◌, ◌↔◌, true, false, IsSome};
+ghost use Rattle.hr_base.specs.declared.name.ChunkName.{ChunkName};
+ghost use Rattle.hr_base.specs.Counts.{Rose};
+ghost use Rattle.hotrestart_cli.specs.declared.ended.Ended.{Ended};
+ghost use Rattle.hotrestart_cli.specs.Words.{is_play};
+ghost use Rattle.hotrestart_cli.specs.Reading.{IsRead};
+ghost use Rattle.hotrestart_cli.specs.Folders.{Because, IsCalm, Served, WasDone, WasRefused, WasNotBuilt};
+ghost use Rattle.hotrestart_cli.specs.Outcome.{IsTellable};
+
+use crate::ended::Ended;
+use crate::play::play;
+use crate::script::read_lines;
+use crate::telling::tell;
+use crate::words::is_play_command;
+use dir_files::Folder;
+use hr_edges::{Sink, Source};
+use std::alloc::Global;
+
+/// Runs a session up to its last line.
+fn run<F: Folder, S: Source, K: Sink>(
+    alloc: Global,
+    words: &[String],
+    folder: &mut F,
+    input: &mut S,
+    out: &mut K,
+) -> Ended
+    requires calm { F.tells ≡ true → IsCalm (F.port folder.old) }
+    ensures calm { F.tells ≡ true → IsCalm (F.port folder.new) }
+    ensures because { Because F.tells (is_play words.now) (S.left input.old) (F.port folder.old) (F.port folder.new) (K.taken out.old) (K.taken out.new) result }
+    ensures ended { result ≡ Ended.Whole → IsRead (S.left input.old) (S.left input.new) }
+    ensures tellable { IsTellable result }
+    ensures words { result ≡ Ended.Words ↔ (is_play words.now ≡ false) }
+    ensures input { result ≡ Ended.Input → Rose (S.count input.old) (S.count input.new) }
+    ensures sink { result ≡ Ended.Sink → Rose (K.count out.old) (K.count out.new) }
+    ensures disk { result ≡ Ended.Disk → Rose (F.count folder.old) (F.count folder.new) }
+    ensures not_built { F.tells ≡ true → (name : ChunkName) → result ≡ Ended.NotBuilt name → IsSome ((F.port folder.old).held name) }
+    ensures sink_kept { K.count out.old ≤ K.count out.new }
+{
+    if !is_play_command(words) {
+        return Ended::Words;
+    }
+    match read_lines(alloc, input) {
+        Ok(script) => play(alloc, script.lines(), folder, out),
+        Err(ended) => ended,
+    }
+}
+
+/// Does what the words say over a folder, a source and a sink, and answers the status.
+pub fn serve<F: Folder, S: Source, K: Sink>(
+    alloc: Global,
+    words: &[String],
+    folder: &mut F,
+    input: &mut S,
+    out: &mut K,
+) -> u8
+    requires calm { F.tells ≡ true → IsCalm (F.port folder.old) }
+
+    // Nothing is lent and nothing is foreign, for every status.
+    ensures calm { F.tells ≡ true → IsCalm (F.port folder.new) }
+    // What was printed, what was refused and why, and what every crash leaves.
+    ensures served { Served F.tells (is_play words.now) (S.left input.old) (F.port folder.old) (F.port folder.new) (K.taken out.old) (K.taken out.new) result }
+
+    // Status 0: the whole script was done, and its replies, all of them and nothing else, were taken.
+    ensures whole { result ≡ 0 → WasDone (S.left input.old) (K.taken out.old) (K.taken out.new) }
+
+    ensures ended { result ≡ 0 → IsRead (S.left input.old) (S.left input.new) }
+    // Status 1: exactly where the words are not those of the command.
+    ensures words { result ≡ 1 ↔ (is_play words.now ≡ false) }
+    // Status 2: the script is too long, or a line of it is the first that is none; that is told, and nothing else.
+    ensures refused { result ≡ 2 → WasRefused (S.left input.old) (K.taken out.old) (K.taken out.new) }
+    // Statuses 3, 4 and 5: only where the count of faults of the source, the sink or the folder rose.
+    ensures input { result ≡ 3 → Rose (S.count input.old) (S.count input.new) }
+    ensures sink { result ≡ 4 → Rose (K.count out.old) (K.count out.new) }
+    ensures disk { result ≡ 5 → Rose (F.count folder.old) (F.count folder.new) }
+    // Status 6: only where the folder held a chunk file, which is named; nothing else was written.
+    ensures not_built { F.tells ≡ true → result ≡ 6 → WasNotBuilt (F.port folder.old) (K.taken out.old) (K.taken out.new) }
+{
+    let ended = run(alloc, words, folder, input, out);
+    tell(alloc, ended, out)
+}

@@ -1,0 +1,4 @@
+pub mod Counts
+pub mod NameTests
+pub mod Names
+pub mod Records

@@ -1,0 +1,22 @@
+//! Where the bytes of a session come from and go to, with their failures.
+#![tactic(auto)]
+
+mod failure;
+mod schedule;
+mod sink;
+mod sink_in_memory;
+mod sink_of_std;
+mod source;
+mod source_in_memory;
+mod source_of_std;
+
+pub use failure::Failed;
+pub use sink::Sink;
+pub use sink_in_memory::MemSink;
+pub use sink_of_std::StdSink;
+pub use source::Source;
+pub use source_in_memory::MemSource;
+pub use source_of_std::StdSource;
+
+#[cfg(test)]
+mod tests;

@@ -1,0 +1,101 @@
+//! A sink of bytes in memory.
+
+ghost use Rattle.std.specs.Prelude.{◌≡◌, ◌<◌, ◌≤◌, ◌-◌, Some, [], IfOk, OnErr, is_err, length, vec_len, vec_capacity};
+
+use crate::failure::Failed;
+use crate::schedule::Schedule;
+use crate::sink::Sink;
+use hr_base::Memory;
+use std::alloc::Global;
+
+/// Room in memory that bytes are put into one after another, with failures at chosen calls.
+#[derive(Drop)]
+pub struct MemSink {
+    bytes: Vec<u8>,
+    room: usize,
+    most: usize,
+    schedule: Schedule,
+    ghost within: { vec_len bytes ≤ room },
+    ghost reserved: { room ≤ vec_capacity bytes },
+}
+
+impl MemSink {
+    /// Takes as many bytes in a call as there is room for, and fails at the calls that are listed, counted from 1.
+    /// All memory is asked for here, for `room` bytes.
+    pub fn new(alloc: Global, room: usize, fails: Vec<u64>) -> Result<MemSink, Memory>
+        ensures taken { IfOk result (λ sink. ⟦<MemSink as Sink>⟧.taken sink ≡ Some []) }
+        ensures count { IfOk result (λ sink. ⟦<MemSink as Sink>⟧.count sink ≡ 0) }
+        ensures room { IfOk result (λ sink. sink.room ≡ room) }
+        ensures most { IfOk result (λ sink. sink.most ≡ usize.MAX) }
+        ensures schedule { IfOk result (λ sink. sink.schedule ≡ record { fails = fails; calls = 0; count = 0 }) }
+    {
+        MemSink::in_steps(alloc, room, fails, usize::MAX)
+    }
+
+    /// The same, but takes no more than so many bytes in a call.
+    pub fn in_steps(
+        alloc: Global,
+        room: usize,
+        fails: Vec<u64>,
+        most: usize,
+    ) -> Result<MemSink, Memory>
+        ensures taken { IfOk result (λ sink. ⟦<MemSink as Sink>⟧.taken sink ≡ Some []) }
+        ensures count { IfOk result (λ sink. ⟦<MemSink as Sink>⟧.count sink ≡ 0) }
+        ensures room { IfOk result (λ sink. sink.room ≡ room) }
+        ensures most { IfOk result (λ sink. sink.most ≡ most) }
+        ensures schedule { IfOk result (λ sink. sink.schedule ≡ record { fails = fails; calls = 0; count = 0 }) }
+    {
+        Ok(MemSink {
+            bytes: Vec::with_capacity(alloc, room)?,
+            room,
+            most,
+            schedule: Schedule::new(fails),
+        })
+    }
+
+    /// The bytes that it took.
+    pub fn taken(&self) -> &[u8]
+        ensures { ⟦<MemSink as Sink>⟧.taken self.now ≡ Some result.now }
+    {
+        self.bytes.as_slice()
+    }
+}
+
+impl Sink for MemSink {
+    ghost use Rattle.hr_base.specs.Counts.{Rose};
+    ghost use Rattle.hr_edges.specs.Edges.{Takes, TakesSome};
+    ghost use Rattle.hr_edges.specs.Schedules.{is_due, least};
+
+    ghost taken = { λ sink. Some sink.bytes.items };
+
+    ghost count = { λ sink. sink.schedule.count };
+
+    fn write(&mut self, piece: &[u8]) -> Result<usize, Failed>
+        ensures due { is_err result ≡ is_due self.old.schedule }
+        ensures amount { IfOk result (λ n. n ≡ least (length piece.now)
+            (self.old.room - vec_len self.old.bytes) self.old.most) }
+        ensures appended { IfOk result
+            (λ n. Takes self.old.bytes.items (Some self.new.bytes.items) n piece.now) }
+        ensures refused { OnErr result
+            (TakesSome self.old.bytes.items (Some self.new.bytes.items) piece.now) }
+        ensures bound { IfOk result (λ n. n ≤ length piece.now) }
+        ensures full { IfOk result (λ n. n ≡ 0 → 0 < length piece.now
+            → Rose self.old.schedule.count self.new.schedule.count) }
+        ensures fault { OnErr result (Rose self.old.schedule.count self.new.schedule.count) }
+        ensures kept { self.old.schedule.count ≤ self.new.schedule.count }
+    {
+        if self.schedule.fails_now() {
+            return Err(Failed);
+        }
+        let length = piece.len().min(self.room - self.bytes.len()).min(self.most);
+        self.bytes.extend_from_slice(&piece[..length]).unwrap();
+        if length == 0 && !piece.is_empty() {
+            self.schedule.raise();
+        }
+        Ok(length)
+    }
+
+    fn faults(&self) -> u64 {
+        self.schedule.count
+    }
+}

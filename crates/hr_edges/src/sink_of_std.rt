@@ -1,0 +1,59 @@
+//! A writer of the standard library as a sink.
+
+ghost use Rattle.std.specs.Prelude.{◌≡◌, ◌<◌, ◌≤◌, None, IfOk, OnErr, length};
+ghost use Rattle.std.specs.Io.KnownBytes.{WriteAppends};
+ghost use Rattle.hr_base.specs.Counts.{Rose};
+
+use crate::failure::Failed;
+use crate::sink::Sink;
+use std::io::Write;
+
+/// A writer. It does not tell its bytes, since a writer may not know them.
+#[derive(Drop)]
+pub struct StdSink<W> {
+    inner: W,
+    count: u64,
+}
+
+impl<W: Write> StdSink<W> {
+    /// No failure so far.
+    pub fn new(inner: W) -> StdSink<W>
+        ensures count { ⟦<StdSink<W> as Sink>⟧.count result ≡ 0 }
+        ensures inner { result.inner ≡ inner }
+    {
+        StdSink { inner, count: 0 }
+    }
+}
+
+impl<W: Write> Sink for StdSink<W> {
+    ghost taken = { λ _. None };
+
+    ghost count = { λ sink. sink.count };
+
+    fn write(&mut self, piece: &[u8]) -> Result<usize, Failed>
+        ensures passed { WriteAppends (W.contents self.old.inner) (W.contents self.new.inner)
+            result piece.now }
+        ensures bound { IfOk result (λ n. n ≤ length piece.now) }
+        ensures full { IfOk result
+            (λ n. n ≡ 0 → 0 < length piece.now → Rose self.old.count self.new.count) }
+        ensures fault { OnErr result (Rose self.old.count self.new.count) }
+        ensures kept { self.old.count ≤ self.new.count }
+    {
+        match self.inner.write(piece) {
+            Ok(length) => {
+                if length == 0 && !piece.is_empty() {
+                    self.count = self.count.saturating_add(1);
+                }
+                Ok(length)
+            }
+            Err(_) => {
+                self.count = self.count.saturating_add(1);
+                Err(Failed)
+            }
+        }
+    }
+
+    fn faults(&self) -> u64 {
+        self.count
+    }
+}

@@ -1,0 +1,5 @@
+use Rattle.partition_writer.specs.Deciding.{decided}
+use Rattle.partition_writer.proofs.laws.last_decides.Goals as goal
+
+pub returns : goal.returns
+returns c = decided

@@ -1,0 +1,50 @@
+-- The maps of a partition: one finite map from keys, each with the prefix that names its map, to contents.
+use Rattle.std.specs.Prelude.{ℕ, List, Option, refl}
+use Rattle.std.specs.FinMap as map
+use Rattle.std.specs.Ordering.{nat_cmp, ordering_then}
+use Rattle.std.specs.declared.cmp.Ordering.{Ordering}
+use Rattle.std.specs.Cmp.Lexicographic.{slice_cmp}
+use Rattle.std.specs.Coded.{Coded, code_by, coded×, coded_ℕ, coded_list, coded_option}
+
+-- a key, and the map that it is of
+pub record Key : Type 0 where
+  pub prefix : ℕ
+  pub bytes : List ℕ
+
+-- what a key has where it is present
+pub record Content : Type 0 where
+  pub value : List ℕ
+
+-- by prefix, and then by bytes
+abbrev pub key_cmp : Key → Key → Ordering
+key_cmp a b = ordering_then (nat_cmp a.prefix b.prefix) (slice_cmp nat_cmp a.bytes b.bytes)
+
+-- the maps of a partition, in one
+abbrev pub Entries : Type 0
+Entries = map.FinMap key_cmp Content
+
+-- a key's state: present with a content, or absent
+abbrev pub State : Type 0
+State = Option Content
+
+-- the key with these bytes in the map with this prefix
+abbrev pub key_at : ℕ → List ℕ → Key
+key_at prefix bytes = record { prefix = prefix; bytes = bytes }
+
+-- the content with this value
+abbrev pub content_of : List ℕ → Content
+content_of value = record { value = value }
+
+abbrev pub coded_key : Coded Key
+coded_key = code_by (ℕ × List ℕ) (coded× coded_ℕ (coded_list coded_ℕ)) (λ k. (k.prefix, k.bytes)) (λ p. record { prefix = p.0; bytes = p.1 }) (λ _. refl)
+
+abbrev pub coded_content : Coded Content
+coded_content = code_by (List ℕ) (coded_list coded_ℕ) (λ c. c.value) (λ v. record { value = v }) (λ _. refl)
+
+-- what contracts see of the maps in memory: the entries, and for which prefix room was made for one new key
+pub record Maps : Type 0 where
+  pub entries : Entries
+  pub ready : Option ℕ
+
+abbrev pub coded_maps : Coded Maps
+coded_maps = code_by (Entries × Option ℕ) (coded× (map.code coded_key coded_content) (coded_option coded_ℕ)) (λ m. (m.entries, m.ready)) (λ p. record { entries = p.0; ready = p.1 }) (λ _. refl)

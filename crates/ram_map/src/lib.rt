@@ -1,0 +1,10 @@
+//! The maps of a partition, in memory.
+#![tactic(auto)]
+
+mod maps;
+mod nested;
+
+pub use maps::RamMap;
+
+#[cfg(test)]
+mod tests;

@@ -1,0 +1,5 @@
+use Rattle.record_format.specs.Laws.{one_split}
+use Rattle.record_format.proofs.laws.one_split.Goals as goal
+
+pub returns : goal.returns
+returns c = one_split

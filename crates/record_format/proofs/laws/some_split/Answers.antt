@@ -1,0 +1,5 @@
+use Rattle.record_format.specs.Laws.{some_split}
+use Rattle.record_format.proofs.laws.some_split.Goals as goal
+
+pub returns : goal.returns
+returns c = some_split

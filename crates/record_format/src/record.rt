@@ -1,0 +1,172 @@
+//! Records, and how they are spelled. The layout is stated in `docs/FORMATS.md`.
+
+ghost use Rattle.std.specs.Prelude.{◌≡◌, ◌<◌, ◌≤◌, ◌^◌, ◌++◌, OnOk, OnErr, length, take};
+ghost use Rattle.std.specs.Int.{w32, w64, to_be_bytes};
+ghost use Rattle.record_format.specs.Spelling.{IsRecord, spelling};
+
+use bytes::Bytes;
+use hr_base::{Memory, Seq};
+
+/// One fact about a partition's maps.
+#[derive(Debug, Drop)]
+pub enum Record {
+    /// A key of the map `prefix` was given a value.
+    Value {
+        seq: Seq,
+        prefix: u64,
+        key: Bytes,
+        value: Bytes,
+    },
+    /// A key of the map `prefix` was removed.
+    Tomb {
+        seq: Seq,
+        prefix: u64,
+        key: Bytes,
+    },
+    /// All keys of the map `prefix` were removed.
+    Clear {
+        prefix: u64,
+        seq: Seq,
+    },
+}
+
+/// Appends a record's spelling.
+pub fn encode(rec: &Record, out: &mut Vec<u8>) -> Result<(), Memory>
+    requires { IsRecord rec.now }
+    ensures ok { OnOk result (out.new.items ≡ out.old.items ++ spelling rec.now) }
+    ensures err { OnErr result (out.new.items ≡ out.old.items) }
+{
+    let start = out.len();
+    let done = append_record(rec, out);
+    if done.is_err() {
+        out.truncate(start);
+    }
+    done
+}
+
+// Appends a record's spelling, or a front of it where memory runs out.
+fn append_record(rec: &Record, out: &mut Vec<u8>) -> Result<(), Memory>
+    requires { IsRecord rec.now }
+    ensures ok { OnOk result (out.new.items ≡ out.old.items ++ spelling rec.now) }
+    ensures kept { take (length out.old.items) out.new.items ≡ out.old.items }
+{
+    match rec {
+        Record::Value {
+            seq,
+            prefix,
+            key,
+            value,
+        } => append_value(*seq, *prefix, key, value, out),
+        Record::Tomb { seq, prefix, key } => append_tomb(*seq, *prefix, key, out),
+        Record::Clear { prefix, seq } => append_clear(*prefix, *seq, out),
+    }
+}
+
+// Appends a value record's header, key and value, or a front of them where memory runs out.
+fn append_value(
+    seq: Seq,
+    prefix: u64,
+    key: &[u8],
+    value: &[u8],
+    out: &mut Vec<u8>,
+) -> Result<(), Memory>
+    requires key { length key.now < 2 ^ 32 }
+    requires value { length value.now < 2 ^ 32 }
+    ensures ok { OnOk result (out.new.items
+        ≡ out.old.items ++ (to_be_bytes w64 seq.0 ++ to_be_bytes w64 prefix
+        ++ to_be_bytes w32 (length key.now) ++ to_be_bytes w32 (length value.now)
+        ++ key.now ++ value.now)) }
+    ensures kept { take (length out.old.items) out.new.items ≡ out.old.items }
+{
+    out.extend_from_slice(&seq.0.to_be_bytes())?;
+    out.extend_from_slice(&prefix.to_be_bytes())?;
+    out.extend_from_slice(&(key.len() as u32).to_be_bytes())?;
+    out.extend_from_slice(&(value.len() as u32).to_be_bytes())?;
+    out.extend_from_slice(key)?;
+    out.extend_from_slice(value)?;
+    Ok(())
+}
+
+// Appends a tombstone's header and key, or a front of them where memory runs out.
+fn append_tomb(seq: Seq, prefix: u64, key: &[u8], out: &mut Vec<u8>) -> Result<(), Memory>
+    requires { length key.now < 2 ^ 32 }
+    ensures ok { OnOk result (out.new.items
+        ≡ out.old.items ++ (to_be_bytes w64 seq.0 ++ to_be_bytes w64 prefix
+        ++ to_be_bytes w32 (length key.now) ++ key.now)) }
+    ensures kept { take (length out.old.items) out.new.items ≡ out.old.items }
+{
+    out.extend_from_slice(&seq.0.to_be_bytes())?;
+    out.extend_from_slice(&prefix.to_be_bytes())?;
+    out.extend_from_slice(&(key.len() as u32).to_be_bytes())?;
+    out.extend_from_slice(key)?;
+    Ok(())
+}
+
+// Appends a prefix tombstone, or a front of it where memory runs out.
+fn append_clear(prefix: u64, seq: Seq, out: &mut Vec<u8>) -> Result<(), Memory>
+    ensures ok { OnOk result (out.new.items
+        ≡ out.old.items ++ (to_be_bytes w64 prefix ++ to_be_bytes w64 seq.0)) }
+    ensures kept { take (length out.old.items) out.new.items ≡ out.old.items }
+{
+    out.extend_from_slice(&prefix.to_be_bytes())?;
+    out.extend_from_slice(&seq.0.to_be_bytes())?;
+    Ok(())
+}
+
+#[cfg(test)]
+mod tests {
+    use super::*;
+    use std::process::Abort;
+    use std::test::Fail;
+
+    fn check<R: Abort + AllocGlobal>(rt: &R, rec: Record, spelled: &[u8]) -> Result<(), Fail>
+        requires { IsRecord rec }
+    {
+        let mut out = Vec::new(rt.alloc());
+        encode(&rec, &mut out)?;
+        assert_eq!(rt; out.as_slice(), spelled, "{rec:?}");
+        Ok(())
+    }
+
+    fn value(seq: u64, prefix: u64, key: &'static [u8], value: &'static [u8]) -> Record
+        ensures { result ≡ Record.Value (record { 0 = seq }) prefix key.now value.now }
+    {
+        Record::Value {
+            seq: Seq(seq),
+            prefix,
+            key: Bytes::from_static(key),
+            value: Bytes::from_static(value),
+        }
+    }
+
+    #[test]
+    fn spells_each_class(rt: HostRuntime) -> Result<(), Fail> {
+        check(
+            &rt,
+            value(1, 5, b"k1", b"v1"),
+            b"\0\0\0\0\0\0\0\x01\0\0\0\0\0\0\0\x05\0\0\0\x02\0\0\0\x02k1v1",
+        )?;
+        check(
+            &rt,
+            value(1, 0, b"", b""),
+            b"\0\0\0\0\0\0\0\x01\0\0\0\0\0\0\0\0\0\0\0\0\0\0\0\0",
+        )?;
+        check(
+            &rt,
+            Record::Tomb {
+                seq: Seq(4),
+                prefix: 1,
+                key: Bytes::from_static(b"b"),
+            },
+            b"\0\0\0\0\0\0\0\x04\0\0\0\0\0\0\0\x01\0\0\0\x01b",
+        )?;
+        check(
+            &rt,
+            Record::Clear {
+                prefix: 2,
+                seq: Seq(6),
+            },
+            b"\0\0\0\0\0\0\0\x02\0\0\0\0\0\0\0\x06",
+        )
+    }
+}

@@ -1,0 +1,5 @@
+use Rattle.script_text.proofs.Readings as readings
+use Rattle.script_text.proofs.laws.one_first_bad.Goals as goal
+
+pub returns : goal.returns
+returns c = readings.one_first_bad
