@@ -2,15 +2,15 @@
 use Rattle.std.specs.Prelude.{◌≡◌, ◌↔◌, ℕ, ◌+◌, ◌≤◌, ◌^◌, Bool, true, false, ◌&&◌, ◌||◌, List, [], Contains, Option, Some, None, IsSome, is_some, refl}
 use Rattle.std.specs.Option.{option_map}
 use Rattle.std.specs.FinMap.{empty}
-use Rattle.std.proofs.Common.{sym, ◌∙◌, subst, inl, inr, arith}
+use Rattle.std.proofs.Common.{sym, ◌∙◌, ap, subst, inl, inr, arith}
 use Rattle.hr_base.specs.declared.name.ChunkName.{ChunkName}
 use Rattle.dir_files.specs.Files.{FileState, Files, named_file}
 use Rattle.dir_files.specs.Ports.{Port, SamePort, CanJoin, Joins, SyncsNames, IsListing, either_file}
-use Rattle.dir_files.specs.Images.{Image, IsImage, MayLeave}
+use Rattle.dir_files.specs.Images.{Image, IsImage, MayLeave, read_of}
 use Rattle.ram_map.specs.Entries.{Entries}
 use Rattle.script_text.specs.declared.line.Line.{Line}
 use Rattle.partition_writer.specs.Accounts.{Account, fresh_account}
-use Rattle.partition_writer.specs.Restarts.{SurvivesCrash}
+use Rattle.partition_writer.specs.Restarts.{RestartsAs, SurvivesCrash}
 use Rattle.partition_writer.specs.Standing.{IsGivenBack, Leaves}
 use Rattle.partition_writer.specs.Standing.{Standing, StandsFor}
 use Rattle.hotrestart_cli.specs.declared.ended.Ended.{Ended}
@@ -20,6 +20,7 @@ use Rattle.std.proofs.lemmas.List.{append-nil}
 use Rattle.hotrestart_cli.specs.Session.{lines_size, account_at, TextAt, Played}
 use Rattle.hotrestart_cli.specs.declared.ended.Ended.TheVariants.{Whole, Words, TooLong, Line as BadLine, Input, Sink, Disk, NotBuilt, Memory}
 use Rattle.hotrestart_cli.specs.Outcome.{IsSessionEnd, IsTellable, Takes, last_line, status_of, Tells, told, no_memory, not_taken, nothing_taken}
+use Rattle.hotrestart_cli.specs.NameOrder.{IsFirstHeld}
 use Rattle.hotrestart_cli.specs.Folders.{IsCalm, IsVacant, IsScriptOf, Ran, Because, Served, WasDone, WasRefused, WasNotBuilt}
 
 absent : (a b : Option FileState) → a ≡ None → b ≡ None → (is_some a || is_some b) ≡ true → ⊥
@@ -66,6 +67,12 @@ pub survives_joined : (a b new : Port) (d : Account) → IsVacant a → Joins a 
 survives_joined a b new d v j l image is =
     l.survives image (same_images b.held b.gone new.held new.gone image (λ n. j.held n ∙ either_none (a.held n) (b.held n) (v.held n)) (λ n. j.gone n ∙ either_none (a.gone n) (b.gone n) (v.gone n)) is)
 
+-- and what is read of it is read of the folder
+pub reads_joined : (a b new : Port) (m : Entries) → IsVacant a → Joins a b new → RestartsAs (read_of b) 1 0 m → RestartsAs (read_of new) 1 0 m
+reads_joined a b new m v j r =
+    let same : (n : ChunkName) → read_of b n ≡ read_of new n = λ n. ap (option_map (λ (file : FileState). file.bytes)) (sym (j.held n ∙ either_none (a.held n) (b.held n) (v.held n))) in
+    subst (λ (image : Image). RestartsAs image 1 0 m) (λ i n. same n i) r
+
 -- ---- the calls before a session begins
 
 synced_leaves : (file gone : Option FileState) (left : Option (List ℕ)) → MayLeave (option_map named_file file) None left → MayLeave file gone left
@@ -81,6 +88,17 @@ pub images_synced : (old new : Port) (image : Image) → SyncsNames old new → 
 images_synced old new image s is n =
     synced_leaves (old.held n) (old.gone n) (image n)
     (subst (λ (x : Option FileState). MayLeave x None (image n)) (s.held n) (subst (λ (x : Option FileState). MayLeave (new.held n) x (image n)) (s.gone n) (is n)))
+
+bytes_named : (file : Option FileState) → option_map (λ (f : FileState). f.bytes) (option_map named_file file) ≡ option_map (λ (f : FileState). f.bytes) file
+bytes_named None = refl
+bytes_named (Some f) = refl
+
+-- and all is read as before
+pub read_synced : (old new : Port) (name : ChunkName) → SyncsNames old new → read_of new name ≡ read_of old name
+read_synced old new name s = ap (option_map (λ (f : FileState). f.bytes)) (s.held name) ∙ bytes_named (old.held name)
+
+pub read_same : (old new : Port) (name : ChunkName) → SamePort old new → read_of new name ≡ read_of old name
+read_same old new name s = ap (option_map (λ (f : FileState). f.bytes)) (s.held name)
 
 -- nor does a call that changes nothing
 pub images_same : (old new : Port) (image : Image) → SamePort old new → IsImage new.held new.gone image → IsImage old.held old.gone image
@@ -124,8 +142,9 @@ vacant_before old new s v n = unsynced_none (old.held n) (sym (s.held n) ∙ v n
 pub session_ran : (tells : Bool) (lines : List Line) (start forked now : Port) (closed : Port) (s t : Standing) (before after : Option (List ℕ)) (ended : Ended)
     → Played tells lines s t before after ended → s.maps ≡ empty → lines_size lines ≤ 2 ^ 27
     → (tells ≡ true → IsVacant start) → (tells ≡ true → SamePort start forked) → (tells ≡ true → Joins forked closed now) → (tells ≡ true → StandsFor s (fresh_account empty) 0)
-    → (tells ≡ true → (a : Account) (size : ℕ) → StandsFor t a size → size ≤ 2 ^ 27 → Leaves closed a) → Ran tells lines start now before after ended
-session_ran tells lines start forked now closed s t before after ended played maps small vacant same joined stands leaves = inr (record {
+    → (tells ≡ true → (a : Account) (size : ℕ) → StandsFor t a size → size ≤ 2 ^ 27 → Leaves closed a)
+    → (tells ≡ true → (a : Account) (size : ℕ) → StandsFor t a size → size ≤ 2 ^ 27 → t.halted ≡ None → RestartsAs (read_of closed) 1 0 a.maps) → Ran tells lines start now before after ended
+session_ran tells lines start forked now closed s t before after ended played maps small vacant same joined stands leaves reads = inr (record {
   count = played.count;
   within = played.within;
   all = played.all;
@@ -134,6 +153,9 @@ session_ran tells lines start forked now closed s t before after ended played ma
   survives = λ y.
       survives_joined forked closed now (account_at ended lines played.count (fresh_account empty)) (vacant_same start forked (same y) (vacant y)) (joined y)
       (leaves y _ (0 + lines_size lines) (played.account y (fresh_account empty) 0 (stands y)) (omega (arith, small)));
+  exact = λ y sound.
+      reads_joined forked closed now (account_at ended lines played.count (fresh_account empty)).maps (vacant_same start forked (same y) (vacant y)) (joined y)
+      (reads y _ (0 + lines_size lines) (played.account y (fresh_account empty) 0 (stands y)) (omega (arith, small)) (played.running sound));
 })
 
 -- a session after the names were synced and listed
@@ -144,6 +166,7 @@ ran_after tells lines old synced listed new before now ended syncs same ran =
       | inl none ↦ inl (record {
         unfinished = none.unfinished;
         silent = none.silent;
+        read = λ y name. none.read y name ∙ read_same synced listed name (same y) ∙ read_synced old synced name (syncs y);
         images = λ y image is. images_synced old synced image (syncs y) (images_same synced listed image (same y) (none.images y image is));
       })
       | inr session ↦ inr (record {
@@ -153,6 +176,7 @@ ran_after tells lines old synced listed new before now ended syncs same ran =
         text = session.text;
         fresh = λ y. vacant_before old synced (syncs y) (λ n. sym ((same y).held n) ∙ session.fresh y n);
         survives = session.survives;
+        exact = session.exact;
       })
     ]
 
@@ -173,17 +197,17 @@ ended_of_text (BadLine number) lines count m before now t = absurd t
 ended_of_text Input lines count m before now t = absurd t
 ended_of_text (NotBuilt name) lines count m before now t = absurd t
 
-pub because_played : (tells play : Bool) (left : Option (List ℕ)) (old new : Port) (before mid : Option (List ℕ)) (ended : Ended) (lines : List Line)
-    → play ≡ true → IsSessionEnd ended → IsScriptOf left lines → Ran tells lines old new before mid ended → Because tells play left old new before mid ended
-because_played tells play left old new before mid Whole lines y end is ran = (y, (lines, is, ran))
-because_played tells play left old new before mid Sink lines y end is ran = (y, (lines, is, ran))
-because_played tells play left old new before mid Disk lines y end is ran = (y, (lines, is, ran))
-because_played tells play left old new before mid Memory lines y end is ran = (y, inr (lines, is, ran))
-because_played tells play left old new before mid (NotBuilt name) lines y end is ran = (y, (lines, is, ran))
-because_played tells play left old new before mid Words lines y end is ran = absurd end
-because_played tells play left old new before mid TooLong lines y end is ran = absurd end
-because_played tells play left old new before mid (BadLine number) lines y end is ran = absurd end
-because_played tells play left old new before mid Input lines y end is ran = absurd end
+pub because_played : (tells play : Bool) (left rest : Option (List ℕ)) (old new : Port) (before mid : Option (List ℕ)) (ended : Ended) (lines : List Line)
+    → play ≡ true → IsSessionEnd ended → IsScriptOf left lines → Ran tells lines old new before mid ended → Because tells play left rest old new before mid ended
+because_played tells play left rest old new before mid Whole lines y end is ran = (y, (lines, is, ran))
+because_played tells play left rest old new before mid Sink lines y end is ran = (y, (lines, is, ran))
+because_played tells play left rest old new before mid Disk lines y end is ran = (y, (lines, is, ran))
+because_played tells play left rest old new before mid Memory lines y end is ran = (y, inr (lines, is, ran))
+because_played tells play left rest old new before mid (NotBuilt name) lines y end is ran = (y, (lines, is, ran))
+because_played tells play left rest old new before mid Words lines y end is ran = absurd end
+because_played tells play left rest old new before mid TooLong lines y end is ran = absurd end
+because_played tells play left rest old new before mid (BadLine number) lines y end is ran = absurd end
+because_played tells play left rest old new before mid Input lines y end is ran = absurd end
 
 pub tellable_played : (ended : Ended) → IsSessionEnd ended → IsTellable ended
 tellable_played Whole end = tt
@@ -246,10 +270,10 @@ whole_text tells lines old new before mid ran =
     ]
 
 -- so status 0 tells that the whole script was done
-pub done_told : (tells play : Bool) (left : Option (List ℕ)) (old new : Port) (before now : Option (List ℕ)) (status : ℕ) → Served tells play left old new before now status → status ≡ 0 → WasDone left before now
-done_told tells play left old new before now status s e =
+pub done_told : (tells play : Bool) (left rest : Option (List ℕ)) (old new : Port) (faults count : ℕ) (before now : Option (List ℕ)) (status : ℕ) → Served tells play left rest old new faults count before now status → status ≡ 0 → WasDone left before now
+done_told tells play left rest old new faults count before now status s e =
     let w = whole_told s.ended status s.mid now s.told e in
-    let because = subst (λ (x : Ended). Because tells play left old new before s.mid x) w.0 s.because in
+    let because = subst (λ (x : Ended). Because tells play left rest old new before s.mid x) w.0 s.because in
     record {
       lines = because.1.0;
       script = because.1.1;
@@ -264,23 +288,24 @@ refused_of ended _ mid now (no_memory t) e = cc
 refused_of ended _ mid now (not_taken t) e = cc
 refused_of ended _ mid now (nothing_taken t) e = cc
 
-refused_by : (tells play : Bool) (left : Option (List ℕ)) (old new : Port) (before mid now : Option (List ℕ)) (ended : Ended)
-    → status_of ended ≡ 2 → Because tells play left old new before mid ended → Takes mid now (last_line ended) → WasRefused left before now
-refused_by tells play left old new before mid now TooLong e b t = inl (b.1, subst (λ (m : Option (List ℕ)). Takes m now (last_line TooLong)) b.2.silent t)
-refused_by tells play left old new before mid now (BadLine number) e b t = inr (number, b.1, subst (λ (m : Option (List ℕ)). Takes m now (last_line (BadLine number))) b.2.silent t)
-refused_by tells play left old new before mid now Whole e b t = cc
-refused_by tells play left old new before mid now Words e b t = cc
-refused_by tells play left old new before mid now Input e b t = cc
-refused_by tells play left old new before mid now Sink e b t = cc
-refused_by tells play left old new before mid now Disk e b t = cc
-refused_by tells play left old new before mid now (NotBuilt name) e b t = cc
-refused_by tells play left old new before mid now Memory e b t = cc
+refused_by : (tells play : Bool) (left rest : Option (List ℕ)) (old new : Port) (before mid now : Option (List ℕ)) (ended : Ended)
+    → status_of ended ≡ 2 → Because tells play left rest old new before mid ended → Takes mid now (last_line ended) → WasRefused left rest before now
+refused_by tells play left rest old new before mid now TooLong e b t = inl (b.1, subst (λ (m : Option (List ℕ)). Takes m now (last_line TooLong)) b.2.silent t)
+refused_by tells play left rest old new before mid now (BadLine number) e b t = inr (number, b.1, subst (λ (m : Option (List ℕ)). Takes m now (last_line (BadLine number))) b.2.silent t)
+refused_by tells play left rest old new before mid now Whole e b t = cc
+refused_by tells play left rest old new before mid now Words e b t = cc
+refused_by tells play left rest old new before mid now Input e b t = cc
+refused_by tells play left rest old new before mid now Sink e b t = cc
+refused_by tells play left rest old new before mid now Disk e b t = cc
+refused_by tells play left rest old new before mid now (NotBuilt name) e b t = cc
+refused_by tells play left rest old new before mid now Memory e b t = cc
 
 -- and status 2 tells why the script was refused
-pub refused_told : (tells play : Bool) (left : Option (List ℕ)) (old new : Port) (before now : Option (List ℕ)) (status : ℕ) → Served tells play left old new before now status → status ≡ 2 → WasRefused left before now
-refused_told tells play left old new before now status s e =
+pub refused_told : (tells play : Bool) (left rest : Option (List ℕ)) (old new : Port) (faults count : ℕ) (before now : Option (List ℕ)) (status : ℕ)
+    → Served tells play left rest old new faults count before now status → status ≡ 2 → WasRefused left rest before now
+refused_told tells play left rest old new faults count before now status s e =
     let r = refused_of s.ended status s.mid now s.told e in
-    refused_by tells play left old new before s.mid now s.ended r.0 s.because r.1
+    refused_by tells play left rest old new before s.mid now s.ended r.0 s.because r.1
 
 not_built_of : (ended : Ended) (status : ℕ) (mid now : Option (List ℕ)) → Tells ended status mid now → status ≡ 6 → (status_of ended ≡ 6) × Takes mid now (last_line ended)
 not_built_of ended _ mid now (told t) e = (e, t)
@@ -295,25 +320,25 @@ nothing_written tells lines old new before mid name ran =
       | inr session ↦ absurd session.text
     ]
 
-not_built_by : (tells play : Bool) (left : Option (List ℕ)) (old new : Port) (before mid now : Option (List ℕ)) (ended : Ended)
-    → status_of ended ≡ 6 → Because tells play left old new before mid ended → Takes mid now (last_line ended) → ((name : ChunkName) → ended ≡ NotBuilt name → IsSome (old.held name)) → WasNotBuilt old before now
-not_built_by tells play left old new before mid now (NotBuilt name) e b t h = record {
+not_built_by : (tells play : Bool) (left rest : Option (List ℕ)) (old new : Port) (before mid now : Option (List ℕ)) (ended : Ended)
+    → status_of ended ≡ 6 → Because tells play left rest old new before mid ended → Takes mid now (last_line ended) → ((name : ChunkName) → ended ≡ NotBuilt name → IsFirstHeld old name) → WasNotBuilt old before now
+not_built_by tells play left rest old new before mid now (NotBuilt name) e b t h = record {
   name = name;
-  held = h name refl;
+  first = h name refl;
   text = subst (λ (m : Option (List ℕ)). Takes m now (last_line (NotBuilt name))) (nothing_written tells b.1.0 old new before mid name b.1.2) t;
 }
-not_built_by tells play left old new before mid now Whole e b t h = cc
-not_built_by tells play left old new before mid now Words e b t h = cc
-not_built_by tells play left old new before mid now TooLong e b t h = cc
-not_built_by tells play left old new before mid now (BadLine number) e b t h = cc
-not_built_by tells play left old new before mid now Input e b t h = cc
-not_built_by tells play left old new before mid now Sink e b t h = cc
-not_built_by tells play left old new before mid now Disk e b t h = cc
-not_built_by tells play left old new before mid now Memory e b t h = cc
+not_built_by tells play left rest old new before mid now Whole e b t h = cc
+not_built_by tells play left rest old new before mid now Words e b t h = cc
+not_built_by tells play left rest old new before mid now TooLong e b t h = cc
+not_built_by tells play left rest old new before mid now (BadLine number) e b t h = cc
+not_built_by tells play left rest old new before mid now Input e b t h = cc
+not_built_by tells play left rest old new before mid now Sink e b t h = cc
+not_built_by tells play left rest old new before mid now Disk e b t h = cc
+not_built_by tells play left rest old new before mid now Memory e b t h = cc
 
 -- and status 6 tells a chunk file that the folder held
-pub not_built_told : (tells play : Bool) (left : Option (List ℕ)) (old new : Port) (before mid now : Option (List ℕ)) (ended : Ended) (status : ℕ)
-    → Because tells play left old new before mid ended → Tells ended status mid now → ((name : ChunkName) → ended ≡ NotBuilt name → IsSome (old.held name)) → status ≡ 6 → WasNotBuilt old before now
-not_built_told tells play left old new before mid now ended status because tells_it h e =
+pub not_built_told : (tells play : Bool) (left rest : Option (List ℕ)) (old new : Port) (before mid now : Option (List ℕ)) (ended : Ended) (status : ℕ)
+    → Because tells play left rest old new before mid ended → Tells ended status mid now → ((name : ChunkName) → ended ≡ NotBuilt name → IsFirstHeld old name) → status ≡ 6 → WasNotBuilt old before now
+not_built_told tells play left rest old new before mid now ended status because tells_it h e =
     let r = not_built_of ended status mid now tells_it e in
-    not_built_by tells play left old new before mid now ended r.0 because r.1 h
+    not_built_by tells play left rest old new before mid now ended r.0 because r.1 h

@@ -1,4 +1,5 @@
 pub mod Outcome
+pub mod NameOrder
 pub mod Session
 pub mod SessionLaws
 pub mod Writing

@@ -1,5 +1,5 @@
 -- How a session ends, and what is told of it.
-use Rattle.std.specs.Prelude.{◌≡◌, ℕ, List, [], ◌++◌, take, Option, Some, None, codes, decimal}
+use Rattle.std.specs.Prelude.{◌≡◌, ◌⊎◌, ℕ, List, [], ◌++◌, take, Option, Some, None, codes, decimal}
 use Rattle.hr_base.specs.Names.{IsChunkName, name_text}
 use Rattle.hotrestart_cli.specs.declared.ended.Ended.{Ended}
 use Rattle.hotrestart_cli.specs.declared.ended.Ended.TheVariants.{Whole, Words, TooLong, Line, Input, Sink, Disk, NotBuilt, Memory}
@@ -69,3 +69,23 @@ IsTellable Input = Unit {0}
 IsTellable Sink = Unit {0}
 IsTellable Disk = Unit {0}
 IsTellable Memory = Unit {0}
+
+-- how a session ends that made no call of the folder
+abbrev pub IsEarly : Ended → Type 0
+IsEarly Words = Unit {0}
+IsEarly TooLong = Unit {0}
+IsEarly (Line number) = Unit {0}
+IsEarly Input = Unit {0}
+IsEarly Whole = ⊥
+IsEarly Sink = ⊥
+IsEarly Disk = ⊥
+IsEarly (NotBuilt name) = ⊥
+IsEarly Memory = ⊥
+
+-- the statuses that may come where the script has to be refused: 2, unless input, output or memory failed before it was told
+abbrev pub CanRefuse : ℕ → Type 0
+CanRefuse status = (status ≡ 2) ⊎ (status ≡ 3) ⊎ (status ≡ 4) ⊎ (status ≡ 7)
+
+-- the statuses that may come where the folder holds a chunk file: 6, unless input, output, disk or memory failed before it was told
+abbrev pub CanRefuseFolder : ℕ → Type 0
+CanRefuseFolder status = (status ≡ 3) ⊎ (status ≡ 4) ⊎ (status ≡ 5) ⊎ (status ≡ 6) ⊎ (status ≡ 7)

@@ -1,5 +1,5 @@
 -- How far a source was read.
-use Rattle.std.specs.Prelude.{◌≡◌, ℕ, List, [], ◌++◌, length, Option, None, Some, refl}
+use Rattle.std.specs.Prelude.{◌≡◌, ℕ, ◌+◌, ◌^◌, ◌<◌, List, [], ◌++◌, length, Option, None, Some, refl}
 use Rattle.std.proofs.Common.{◌∙◌, ap, arith, length-append}
 use Rattle.std.proofs.lemmas.List.{nil_from_length}
 
@@ -16,6 +16,13 @@ read_end left all read w e =
     let same = ap length e in
     let none : length w.rest ≡ 0 = omega (arith, whole, same, length-append read w.rest) in
     w.left_is ∙ ap Some (nil_from_length w.rest none)
+
+-- more bytes than a script may have were read, and these are left
+abbrev pub ReadsTooMuch : List ℕ → Option (List ℕ) → Type 0
+ReadsTooMuch all left = (rest : List ℕ) × (left ≡ Some rest) × (2 ^ 25 + length rest < length all)
+
+pub reads_too_much : (left : Option (List ℕ)) (all read : List ℕ) → WasRead left all read → 2 ^ 25 < length read → ReadsTooMuch all left
+reads_too_much left all read w long = (w.rest, w.left_is, omega (arith, long, ap length w.whole, length-append read w.rest))
 
 -- the source was read to its end, where it tells its bytes
 abbrev pub IsRead : Option (List ℕ) → Option (List ℕ) → Type 0

@@ -50,8 +50,8 @@ lines_size lines = sum_by line_size lines
 -- what is replied, and the maps after it
 abbrev pub Replies : Step → Line → Standing → Standing → List ℕ → Type 0
 Replies Answered line old new text = (text ≡ text_after line old.maps) × (new.maps ≡ maps_after_line line old.maps) × (new.halted ≡ None) × (new.next ≤ old.next + 1)
-Replies NoReply line old new text = new.maps ≡ maps_after_line line old.maps
-Replies NoMemory line old new text = new.maps ≡ old.maps
+Replies NoReply line old new text = (new.maps ≡ maps_after_line line old.maps) × (new.halted ≡ None)
+Replies NoMemory line old new text = (new.maps ≡ old.maps) × (new.halted ≡ None)
 Replies DiskFailed line old new text = new.maps ≡ old.maps
 
 -- the account after it
@@ -83,4 +83,6 @@ pub record Played (tells : Bool) (lines : List Line) (old new : Standing) (befor
   pub within : count ≤ length lines
   pub all : ended ≡ Whole → count ≡ length lines
   pub text : TextAt ended lines count old.maps before now
+  -- and unless the disk refused a line, the writer goes on
+  pub running : (ended ≡ Disk → ⊥) → new.halted ≡ None
   pub account : tells ≡ true → (a : Account) (size : ℕ) → StandsFor old a size → StandsFor new (account_at ended lines count a) (size + lines_size lines)

@@ -138,6 +138,7 @@ played_whole tells lines i old new before now so end =
       within = omega arith;
       all = λ _. refl;
       text = subst (λ (ls : List Line). Takes before now (replies ls old.maps)) all so.text;
+      running = λ _. so.running;
       account = λ t a size h.
           subst (λ (ls : List Line). StandsFor new (account_after_lines ls a) (size + lines_size lines)) (all ∙ sym same)
           (StandsFor-more new _ _ _ (so.account t a size h) (omega (arith, sizes_within i lines)));
@@ -145,13 +146,14 @@ played_whole tells lines i old new before now so end =
 
 -- there was no memory for a line
 pub played_unanswered : (tells : Bool) (lines : List Line) (i : ℕ) (old mid new : Standing) (before now : Option (List ℕ)) → SoFar tells lines i old mid before now → i < length lines
-    → (extra : ℕ) → (tells ≡ true → (a : Account) (size : ℕ) → StandsFor mid a size → StandsFor new a (size + extra)) → lines_size (take i lines) + extra ≤ lines_size lines
+    → new.halted ≡ None → (extra : ℕ) → (tells ≡ true → (a : Account) (size : ℕ) → StandsFor mid a size → StandsFor new a (size + extra)) → lines_size (take i lines) + extra ≤ lines_size lines
     → Played tells lines old new before now Memory
-played_unanswered tells lines i old mid new before now so within extra account fits = record {
+played_unanswered tells lines i old mid new before now so within running extra account fits = record {
   count = i;
   within = omega (arith, within);
   all = λ e. cc;
   text = (i, omega arith, omega arith, so.text);
+  running = λ _. running;
   account = λ t a size h. StandsFor-more new _ _ _ (account t _ _ (so.account t a size h)) (omega (arith, fits));
 }
 
@@ -163,13 +165,14 @@ module _ (lines : List Line) (i : ℕ) (line : Line) (within : i < length lines)
   account_more a = ap (λ (ls : List Line). account_after_lines ls a) (one_more lines i line within is) ∙ account_after_lines-push (take i lines) line a
 
   -- there was no memory for a reply
-  pub played_no_reply : (tells : Bool) (old mid new : Standing) (before now : Option (List ℕ)) → SoFar tells lines i old mid before now
+  pub played_no_reply : (tells : Bool) (old mid new : Standing) (before now : Option (List ℕ)) → SoFar tells lines i old mid before now → new.halted ≡ None
       → (tells ≡ true → (a : Account) (size : ℕ) → StandsFor mid a size → StandsFor new (account_after_line line a) (size + line_size line)) → Played tells lines old new before now Memory
-  played_no_reply tells old mid new before now so account = record {
+  played_no_reply tells old mid new before now so running account = record {
     count = i + 1;
     within = omega (arith, within);
     all = λ e. cc;
     text = (i, omega arith, omega arith, so.text);
+    running = λ _. running;
     account = λ t a size h.
         subst (λ (b : Account). StandsFor new b (size + lines_size lines)) (sym (account_more a))
         (StandsFor-more new _ _ _ (account t _ _ (so.account t a size h)) (omega (arith, size_fits)));
@@ -183,6 +186,7 @@ module _ (lines : List Line) (i : ℕ) (line : Line) (within : i < length lines)
     within = omega (arith, within);
     all = λ e. cc;
     text = so.text;
+    running = λ other. absurd (other refl);
     account = λ t a size h.
         subst (λ (o : Option Line). StandsFor new (account_after_refused o (account_after_lines (take i lines) a)) (size + lines_size lines)) (sym (slice_get_at lines i line within is))
         (StandsFor-more new _ _ _ (account t _ _ (so.account t a size h)) (omega (arith, size_fits)));
@@ -190,13 +194,14 @@ module _ (lines : List Line) (i : ℕ) (line : Line) (within : i < length lines)
 
   -- the sink failed at a reply
   pub played_untaken : (tells : Bool) (old mid new : Standing) (before then' now : Option (List ℕ)) (text : List ℕ) → SoFar tells lines i old mid before then'
-      → text ≡ text_after line mid.maps
+      → text ≡ text_after line mid.maps → new.halted ≡ None
       → (tells ≡ true → (a : Account) (size : ℕ) → StandsFor mid a size → StandsFor new (account_after_line line a) (size + line_size line))
       → TakesFront then' now text → Played tells lines old new before now Sink
-  played_untaken tells old mid new before then' now text so text_is account took = record {
+  played_untaken tells old mid new before then' now text so text_is running account took = record {
     count = i + 1;
     within = omega (arith, within);
     all = λ e. cc;
+    running = λ _. running;
     text =
         subst (λ (t : List ℕ). TakesFront before now t)
         (ap (λ (t : List ℕ). replies (take i lines) old.maps ++ t) (text_is ∙ ap (text_after line) so.maps) ∙ sym (replies-push (take i lines) line old.maps)

@@ -3,7 +3,7 @@
 ghost use Rattle.std.specs.Prelude.{◌≡◌, ◌+◌, ◌<◌, ◌≤◌, ◌^◌, ℕ, true, false, List, [], length, Some, IfOk, IfErr, OnOk, IsErrOf, vec_len};
 ghost use Rattle.hr_base.specs.Counts.{Rose};
 ghost use Rattle.hotrestart_cli.specs.declared.input.InputRefusal.{InputRefusal};
-ghost use Rattle.hotrestart_cli.specs.Reading.{WasRead};
+ghost use Rattle.hotrestart_cli.specs.Reading.{WasRead, ReadsTooMuch};
 
 use hr_edges::Source;
 use std::alloc::Global;
@@ -62,7 +62,7 @@ fn read_more<S: Source>(
     ensures short { vec_len bytes.old ≤ 2 ^ 25 → OnOk result (vec_len bytes.new ≤ 2 ^ 25) }
     ensures read { (all : List ℕ) → WasRead (S.left input.old) all bytes.old.items → OnOk result (WasRead (S.left input.new) all bytes.new.items) }
     ensures done { (all : List ℕ) → WasRead (S.left input.old) all bytes.old.items → IfOk result (λ more. more ≡ false → all ≡ bytes.new.items) }
-    ensures too_long { (all : List ℕ) → WasRead (S.left input.old) all bytes.old.items → IsErrOf result InputRefusal.TooLong → 2 ^ 25 < length all }
+    ensures too_long { (all : List ℕ) → WasRead (S.left input.old) all bytes.old.items → IsErrOf result InputRefusal.TooLong → ReadsTooMuch all (S.left input.new) }
     ensures fault { IsErrOf result InputRefusal.Failed → Rose (S.count input.old) (S.count input.new) }
     ensures kept { S.count input.old ≤ S.count input.new }
 {
@@ -87,7 +87,7 @@ fn read_through<S: Source>(
     ensures short { IfOk result (λ bytes. vec_len bytes ≤ 2 ^ 25) }
     ensures found { (all : List ℕ) → S.left input.old ≡ Some all → IfOk result (λ bytes. bytes.items ≡ all) }
     ensures ended { (all : List ℕ) → S.left input.old ≡ Some all → OnOk result (S.left input.new ≡ Some []) }
-    ensures too_long { (all : List ℕ) → S.left input.old ≡ Some all → IsErrOf result InputRefusal.TooLong → 2 ^ 25 < length all }
+    ensures too_long { (all : List ℕ) → S.left input.old ≡ Some all → IsErrOf result InputRefusal.TooLong → ReadsTooMuch all (S.left input.new) }
     ensures fault { IsErrOf result InputRefusal.Failed → Rose (S.count input.old) (S.count input.new) }
     ensures kept { S.count input.old ≤ S.count input.new }
 {
@@ -104,7 +104,7 @@ fn read_through<S: Source>(
 
 /// A buffer for a piece.
 fn new_buffer(alloc: Global) -> Result<Vec<u8>, InputRefusal>
-    ensures len { IfOk result (λ buffer. 0 < vec_len buffer) }
+    ensures len { IfOk result (λ buffer. vec_len buffer ≡ 65536) }
     ensures err { IfErr result (λ e. e ≡ InputRefusal.Memory) }
 {
     match vec![in alloc; 0u8; PIECE] {
@@ -118,7 +118,7 @@ pub fn read_all<S: Source>(alloc: Global, input: &mut S) -> Result<Vec<u8>, Inpu
     ensures short { IfOk result (λ bytes. vec_len bytes ≤ 2 ^ 25) }
     ensures found { (all : List ℕ) → S.left input.old ≡ Some all → IfOk result (λ bytes. bytes.items ≡ all) }
     ensures ended { (all : List ℕ) → S.left input.old ≡ Some all → OnOk result (S.left input.new ≡ Some []) }
-    ensures too_long { (all : List ℕ) → S.left input.old ≡ Some all → IsErrOf result InputRefusal.TooLong → 2 ^ 25 < length all }
+    ensures too_long { (all : List ℕ) → S.left input.old ≡ Some all → IsErrOf result InputRefusal.TooLong → ReadsTooMuch all (S.left input.new) }
     ensures fault { IsErrOf result InputRefusal.Failed → Rose (S.count input.old) (S.count input.new) }
     ensures kept { S.count input.old ≤ S.count input.new }
 {

@@ -1,6 +1,6 @@
 //! A session over a folder.
 
-ghost use Rattle.std.specs.Prelude.{◌≡◌, ◌⊎◌, ◌+◌, ◌≤◌, ◌^◌, ℕ, true, [], length, All, Contains, None, IsSome, IfSome, IfNone};
+ghost use Rattle.std.specs.Prelude.{◌≡◌, ◌⊎◌, ◌+◌, ◌≤◌, ◌^◌, ℕ, true, [], length, All, Contains, None, IfSome, IfNone};
 ghost use Rattle.hr_base.specs.declared.name.ChunkName.{ChunkName};
 ghost use Rattle.hr_base.specs.Names.{IsChunkName};
 ghost use Rattle.hr_base.specs.Counts.{Rose};
@@ -9,6 +9,7 @@ ghost use Rattle.script_text.specs.Lines.{IsLine};
 ghost use Rattle.hotrestart_cli.specs.declared.ended.Ended.{Ended};
 ghost use Rattle.hotrestart_cli.specs.Session.{lines_size};
 ghost use Rattle.hotrestart_cli.specs.Outcome.{IsSessionEnd};
+ghost use Rattle.hotrestart_cli.specs.NameOrder.{IsUpTo, IsFirstHeld};
 ghost use Rattle.hotrestart_cli.specs.Folders.{IsCalm, IsVacant, Ran};
 
 use crate::ended::Ended;
@@ -58,6 +59,8 @@ fn lesser(a: ChunkName, b: ChunkName) -> ChunkName
     requires second { IsChunkName b }
     ensures one { (result ≡ a) ⊎ (result ≡ b) }
     ensures valid { IsChunkName result }
+    ensures up_to_first { IsUpTo result a }
+    ensures up_to_second { IsUpTo result b }
 {
     if print_name(b) < print_name(a) { b } else { a }
 }
@@ -68,6 +71,7 @@ fn least_name(names: &[ChunkName]) -> Option<ChunkName>
     ensures none { IfNone result (names.now ≡ []) }
     ensures found { IfSome result (λ name. Contains names.now name) }
     ensures valid { IfSome result IsChunkName }
+    ensures first { IfSome result (λ name. All (IsUpTo name) names.now) }
 {
     let Some(first) = names.first() else {
         return None;
@@ -106,7 +110,7 @@ fn play_listed<F: Folder, K: Sink>(
     ensures calm { F.tells ≡ true → IsCalm (F.port folder.new) }
     ensures only { IsSessionEnd result }
     ensures ran { Ran F.tells lines.now (F.port folder.old) (F.port folder.new) (K.taken out.old) (K.taken out.new) result }
-    ensures not_built { F.tells ≡ true → (name : ChunkName) → result ≡ Ended.NotBuilt name → IsSome ((F.port folder.old).held name) }
+    ensures not_built { F.tells ≡ true → (name : ChunkName) → result ≡ Ended.NotBuilt name → IsFirstHeld (F.port folder.old) name }
     ensures disk { result ≡ Ended.Disk → Rose (F.count folder.old) (F.count folder.new) }
     ensures sink { result ≡ Ended.Sink → Rose (K.count out.old) (K.count out.new) }
     ensures kept { F.count folder.old ≤ F.count folder.new }
@@ -130,7 +134,7 @@ pub fn play<F: Folder, K: Sink>(alloc: Global, lines: &[Line], folder: &mut F, o
     ensures calm { F.tells ≡ true → IsCalm (F.port folder.new) }
     ensures only { IsSessionEnd result }
     ensures ran { Ran F.tells lines.now (F.port folder.old) (F.port folder.new) (K.taken out.old) (K.taken out.new) result }
-    ensures not_built { F.tells ≡ true → (name : ChunkName) → result ≡ Ended.NotBuilt name → IsSome ((F.port folder.old).held name) }
+    ensures not_built { F.tells ≡ true → (name : ChunkName) → result ≡ Ended.NotBuilt name → IsFirstHeld (F.port folder.old) name }
     ensures disk { result ≡ Ended.Disk → Rose (F.count folder.old) (F.count folder.new) }
     ensures sink { result ≡ Ended.Sink → Rose (K.count out.old) (K.count out.new) }
     ensures kept { F.count folder.old ≤ F.count folder.new }

@@ -22,7 +22,7 @@ pub fn read_lines<S: Source>(alloc: Global, input: &mut S) -> Result<Script, End
     ensures few { IfOk result (λ script. length script ≤ 2 ^ 25) }
     ensures small { IfOk result (λ script. lines_size script ≤ 2 ^ 27) }
     ensures ended { OnOk result (IsRead (S.left input.old) (S.left input.new)) }
-    ensures refused { IfErr result (IsRefusedScript (S.left input.old)) }
+    ensures refused { IfErr result (IsRefusedScript (S.left input.old) (S.left input.new)) }
     ensures fault { IfErr result (λ e. e ≡ Ended.Input → Rose (S.count input.old) (S.count input.new)) }
     ensures kept { S.count input.old ≤ S.count input.new }
 {

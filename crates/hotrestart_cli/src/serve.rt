@@ -1,13 +1,14 @@
 //! The top call.
 
-ghost use Rattle.std.specs.Prelude.{◌≡◌, ◌≤◌, ◌↔◌, true, false, IsSome};
+ghost use Rattle.std.specs.Prelude.{◌≡◌, ◌≤◌, ◌↔◌, ◌⊎◌, true, false, None, IsSome};
 ghost use Rattle.hr_base.specs.declared.name.ChunkName.{ChunkName};
 ghost use Rattle.hr_base.specs.Counts.{Rose};
 ghost use Rattle.hotrestart_cli.specs.declared.ended.Ended.{Ended};
 ghost use Rattle.hotrestart_cli.specs.Words.{is_play};
 ghost use Rattle.hotrestart_cli.specs.Reading.{IsRead};
-ghost use Rattle.hotrestart_cli.specs.Folders.{Because, IsCalm, Served, WasDone, WasRefused, WasNotBuilt};
-ghost use Rattle.hotrestart_cli.specs.Outcome.{IsTellable};
+ghost use Rattle.hotrestart_cli.specs.NameOrder.{IsFirstHeld};
+ghost use Rattle.hotrestart_cli.specs.Folders.{Because, IsCalm, IsFit, IsUnfit, Served, WasDone, WasRefused, WasNotBuilt};
+ghost use Rattle.hotrestart_cli.specs.Outcome.{IsTellable, IsEarly, CanRefuse, CanRefuseFolder};
 
 use crate::ended::Ended;
 use crate::play::play;
@@ -28,14 +29,17 @@ fn run<F: Folder, S: Source, K: Sink>(
 ) -> Ended
     requires calm { F.tells ≡ true → IsCalm (F.port folder.old) }
     ensures calm { F.tells ≡ true → IsCalm (F.port folder.new) }
-    ensures because { Because F.tells (is_play words.now) (S.left input.old) (F.port folder.old) (F.port folder.new) (K.taken out.old) (K.taken out.new) result }
+    ensures because { Because F.tells (is_play words.now) (S.left input.old) (S.left input.new) (F.port folder.old) (F.port folder.new) (K.taken out.old) (K.taken out.new) result }
     ensures ended { result ≡ Ended.Whole → IsRead (S.left input.old) (S.left input.new) }
     ensures tellable { IsTellable result }
+    ensures idle { is_play words.now ≡ false → (folder.new ≡ folder.old) × (input.new ≡ input.old) × (out.new ≡ out.old) }
+    ensures untouched { IsEarly result → folder.new ≡ folder.old }
+    ensures spared { IsUnfit (S.left input.old) → folder.new ≡ folder.old }
     ensures words { result ≡ Ended.Words ↔ (is_play words.now ≡ false) }
     ensures input { result ≡ Ended.Input → Rose (S.count input.old) (S.count input.new) }
     ensures sink { result ≡ Ended.Sink → Rose (K.count out.old) (K.count out.new) }
     ensures disk { result ≡ Ended.Disk → Rose (F.count folder.old) (F.count folder.new) }
-    ensures not_built { F.tells ≡ true → (name : ChunkName) → result ≡ Ended.NotBuilt name → IsSome ((F.port folder.old).held name) }
+    ensures not_built { F.tells ≡ true → (name : ChunkName) → result ≡ Ended.NotBuilt name → IsFirstHeld (F.port folder.old) name }
     ensures sink_kept { K.count out.old ≤ K.count out.new }
 {
     if !is_play_command(words) {
@@ -59,23 +63,34 @@ pub fn serve<F: Folder, S: Source, K: Sink>(
 
     // Nothing is lent and nothing is foreign, for every status.
     ensures calm { F.tells ≡ true → IsCalm (F.port folder.new) }
-    // What was printed, what was refused and why, and what every crash leaves.
-    ensures served { Served F.tells (is_play words.now) (S.left input.old) (F.port folder.old) (F.port folder.new) (K.taken out.old) (K.taken out.new) result }
+    // What was replied, what was refused and why, what every crash leaves, and what is read where the disk did not fail.
+    ensures served { Served F.tells (is_play words.now) (S.left input.old) (S.left input.new) (F.port folder.old) (F.port folder.new) (F.count folder.old) (F.count folder.new) (K.taken out.old) (K.taken out.new) result }
+    // A script in the grammar, a folder without chunk files and no fault: all is done, unless memory is wanting.
+    ensures complete { F.tells ≡ true → is_play words.now ≡ true → IsFit (S.left input.old) → ((name : ChunkName) → (F.port folder.old).held name ≡ None)
+        → (Rose (S.count input.old) (S.count input.new) → ⊥) → (Rose (K.count out.old) (K.count out.new) → ⊥) → (Rose (F.count folder.old) (F.count folder.new) → ⊥)
+        → (result ≡ 0) ⊎ (result ≡ 7) }
 
-    // Status 0: the whole script was done, and its replies, all of them and nothing else, were taken.
+    // Status 0: the source was read to its end, the whole script was done, and its replies, all of them and nothing
+    // else, were taken.
     ensures whole { result ≡ 0 → WasDone (S.left input.old) (K.taken out.old) (K.taken out.new) }
-
     ensures ended { result ≡ 0 → IsRead (S.left input.old) (S.left input.new) }
-    // Status 1: exactly where the words are not those of the command.
+    // Status 1: exactly where the words are not those of the command. Nothing was touched.
     ensures words { result ≡ 1 ↔ (is_play words.now ≡ false) }
-    // Status 2: the script is too long, or a line of it is the first that is none; that is told, and nothing else.
-    ensures refused { result ≡ 2 → WasRefused (S.left input.old) (K.taken out.old) (K.taken out.new) }
+    ensures idle { result ≡ 1 → (folder.new ≡ folder.old) × (input.new ≡ input.old) × (out.new ≡ out.old) }
+    // Status 2: more was read than a script may have, or a line is the first that is none; that is told, and nothing
+    // else. For such a script no call is made of the folder, whatever the status.
+    ensures refused { result ≡ 2 → WasRefused (S.left input.old) (S.left input.new) (K.taken out.old) (K.taken out.new) }
+    ensures unfit { is_play words.now ≡ true → IsUnfit (S.left input.old) → CanRefuse result × (folder.new ≡ folder.old) }
+    // Statuses 1, 2 and 3: no call is made of the folder.
+    ensures untouched { (result ≡ 1) ⊎ (result ≡ 2) ⊎ (result ≡ 3) → folder.new ≡ folder.old }
     // Statuses 3, 4 and 5: only where the count of faults of the source, the sink or the folder rose.
     ensures input { result ≡ 3 → Rose (S.count input.old) (S.count input.new) }
     ensures sink { result ≡ 4 → Rose (K.count out.old) (K.count out.new) }
     ensures disk { result ≡ 5 → Rose (F.count folder.old) (F.count folder.new) }
-    // Status 6: only where the folder held a chunk file, which is named; nothing else was written.
+    // Status 6: the folder held a chunk file, and the first of them by name is told, and nothing else. Such a folder is
+    // never played over.
     ensures not_built { F.tells ≡ true → result ≡ 6 → WasNotBuilt (F.port folder.old) (K.taken out.old) (K.taken out.new) }
+    ensures built { F.tells ≡ true → is_play words.now ≡ true → IsFit (S.left input.old) → (name : ChunkName) → IsSome ((F.port folder.old).held name) → CanRefuseFolder result }
 {
     let ended = run(alloc, words, folder, input, out);
     tell(alloc, ended, out)

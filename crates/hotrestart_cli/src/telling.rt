@@ -67,6 +67,7 @@ pub fn tell<K: Sink>(alloc: Global, ended: Ended, out: &mut K) -> u8
     requires { IsTellable ended }
     ensures told { Tells ended result (K.taken out.old) (K.taken out.new) }
     ensures silent { last_line ended ≡ [] → result ≡ status_of ended }
+    ensures untouched { last_line ended ≡ [] → out.new ≡ out.old }
     ensures sink { result ≡ 4 → (ended ≡ Ended.Sink) ⊎ Rose (K.count out.old) (K.count out.new) }
     ensures kept { K.count out.old ≤ K.count out.new }
 {

@@ -1,9 +1,13 @@
 //! The program over memory: what it prints, and what stands in the folder then.
 
+mod recording;
+mod stops;
+
 use crate::serve::serve;
 use dir_files::{FaultPlan, MemFolder};
 use hr_base::{ChunkName, ChunkNo, Kind, Partition};
 use hr_edges::{MemSink, MemSource};
+use recording::{Call, Recording};
 use std::alloc::Global;
 use std::process::Abort;
 use std::test::Fail;
@@ -13,6 +17,12 @@ const CHUNK: ChunkName = ChunkName {
     kind: Kind::V,
     number: ChunkNo(1),
 };
+
+/// The number of the folder's root among the ports, for plans and calls.
+const ROOT: usize = 0;
+
+/// The number of the port that a session writes through.
+const FORKED: usize = 1;
 
 /// A run over an empty folder: command words, script, status, what is printed, and what the chunk file holds then.
 #[derive(Clone, Copy)]
@@ -24,15 +34,17 @@ struct Run {
     stored: Option<&'static [u8]>,
 }
 
+/// What is stored of the first script.
+const RECORD: &[u8] =
+    b"\x00\x00\x00\x00\x00\x00\x00\x01\x00\x00\x00\x00\x00\x00\x00\x05\x00\x00\x00\x02\x00\x00\x00\x02k1v1";
+
 const RUNS: [Run; 5] = [
     Run {
         command: "play",
         script: b"0 put 5 k1 v1\n0 sync\n0 get 5 k1\n",
         status: 0,
         printed: b"0 none\n0 synced\n0 is v1\n",
-        stored: Some(
-            b"\x00\x00\x00\x00\x00\x00\x00\x01\x00\x00\x00\x00\x00\x00\x00\x05\x00\x00\x00\x02\x00\x00\x00\x02k1v1",
-        ),
+        stored: Some(RECORD),
     },
     Run {
         command: "play",
@@ -72,16 +84,60 @@ fn words(alloc: Global, command: &str) -> Result<Vec<String>, Fail> {
     Ok(words)
 }
 
+/// What a run left: its status, what it printed to, and its folder.
+#[derive(Drop)]
+struct Outcome {
+    status: u8,
+    out: MemSink,
+    folder: Recording<MemFolder>,
+}
+
+impl Outcome {
+    /// What the chunk file holds.
+    fn stored(&self) -> Option<&[u8]> {
+        self.folder.inner().bytes(CHUNK)
+    }
+
+    /// Compares the status and what was printed.
+    fn expect(&self, rt: &impl Abort, status: u8, printed: &[u8]) {
+        assert_eq!(rt; self.status, status);
+        assert_eq!(rt; self.out.taken(), printed);
+    }
+
+    /// Compares the calls of the folder and of the port that it gave.
+    fn expect_calls(&self, rt: &impl Abort, root: &[Call], forked: &[Call]) {
+        assert_eq!(rt; self.folder.calls(ROOT), root);
+        assert_eq!(rt; self.folder.calls(FORKED), forked);
+    }
+}
+
+/// Runs the program over an empty folder that follows these plans.
+fn run_over(
+    rt: &impl Abort,
+    alloc: Global,
+    command: &str,
+    plans: Vec<FaultPlan>,
+    mut input: MemSource,
+    mut out: MemSink,
+) -> Result<Outcome, Fail> {
+    let words = words(alloc, command)?;
+    let mut folder = Recording::new(alloc, MemFolder::empty(alloc, plans));
+    let status = serve(alloc, words.as_slice(), &mut folder, &mut input, &mut out);
+    assert!(rt; !folder.is_incomplete());
+    Ok(Outcome {
+        status,
+        out,
+        folder,
+    })
+}
+
 /// Runs the program, and compares.
 fn check_run(rt: &impl Abort, alloc: Global, run: &Run) -> Result<(), Fail> {
-    let mut folder = MemFolder::empty(alloc, Vec::new(alloc));
-    let mut input = MemSource::new(run.script.to_vec(alloc)?, Vec::new(alloc));
-    let mut out = MemSink::new(alloc, 100, Vec::new(alloc))?;
-    let words = words(alloc, run.command)?;
-    let status = serve(alloc, words.as_slice(), &mut folder, &mut input, &mut out);
-    assert_eq!(rt; status, run.status);
-    assert_eq!(rt; out.taken(), run.printed);
-    assert_eq!(rt; folder.bytes(CHUNK), run.stored);
+    let input = MemSource::new(run.script.to_vec(alloc)?, Vec::new(alloc));
+    let out = MemSink::new(alloc, 100, Vec::new(alloc))?;
+    let outcome = run_over(rt, alloc, run.command, Vec::new(alloc), input, out)?;
+    outcome.expect(rt, run.status, run.printed);
+    assert_eq!(rt; outcome.stored(), run.stored);
     Ok(())
 }
 
@@ -94,13 +150,15 @@ fn runs_print_and_store_by_the_table(rt: HostRuntime) -> Result<(), Fail> {
 }
 
 /// A run of the first script with a fault: from which call on the folder fails, and the first port that it gives; the
-/// first call at which the source or the sink fails; and the bytes that the sink has room for.
+/// first call at which the source or the sink fails; the most bytes that the sink takes in a write, and those that it
+/// has room for. What is stored is so many first bytes of its record.
 #[derive(Clone, Copy)]
 struct Faulty {
     folder: u64,
     port: u64,
     source: u64,
     sink: u64,
+    most: usize,
     room: usize,
     status: u8,
     printed: &'static [u8],
@@ -114,14 +172,18 @@ const SOUND: Faulty = Faulty {
     port: NEVER,
     source: NEVER,
     sink: NEVER,
+    most: 7,
     room: 100,
     status: 0,
     printed: b"0 none\n0 synced\n0 is v1\n",
     stored: Some(28),
 };
 
-const FAULTY: [Faulty; 8] = [
+const FAULTY: [Faulty; 10] = [
     SOUND,
+    // How finely the bytes come and go changes nothing.
+    Faulty { most: 1, ..SOUND },
+    // The first read fails.
     Faulty {
         source: 1,
         status: 3,
@@ -133,6 +195,13 @@ const FAULTY: [Faulty; 8] = [
         sink: 2,
         status: 4,
         printed: b"0 none\n",
+        ..SOUND
+    },
+    // The sink takes nothing of the first reply, though its put was done.
+    Faulty {
+        room: 0,
+        status: 4,
+        printed: b"",
         ..SOUND
     },
     Faulty {
@@ -178,21 +247,17 @@ fn plan_from(alloc: Global, from: u64) -> FaultPlan {
     }
 }
 
-/// Runs the first script with a fault, one byte a read and seven bytes a write, and compares.
+/// Runs the first script with a fault, one byte a read, and compares.
 fn check_faulty(rt: &impl Abort, alloc: Global, run: &Faulty) -> Result<(), Fail> {
     let plans = vec![in alloc; plan_from(alloc, run.folder), plan_from(alloc, run.port)]?;
-    let mut folder = MemFolder::empty(alloc, plans);
-    let mut input = MemSource::in_steps(
-        RUNS[0].script.to_vec(alloc)?,
-        [run.source].to_vec(alloc)?,
-        1,
-    );
-    let mut out = MemSink::in_steps(alloc, run.room, [run.sink].to_vec(alloc)?, 7)?;
-    let words = words(alloc, "play")?;
-    let status = serve(alloc, words.as_slice(), &mut folder, &mut input, &mut out);
-    assert_eq!(rt; status, run.status);
-    assert_eq!(rt; out.taken(), run.printed);
-    assert_eq!(rt; folder.bytes(CHUNK).map(|bytes| bytes.len()), run.stored);
+    let script = RUNS[0].script.to_vec(alloc)?;
+    let input = MemSource::in_steps(script, [run.source].to_vec(alloc)?, 1);
+    let out = MemSink::in_steps(alloc, run.room, [run.sink].to_vec(alloc)?, run.most)?;
+    let outcome = run_over(rt, alloc, "play", plans, input, out)?;
+    outcome.expect(rt, run.status, run.printed);
+    let stored = outcome.stored();
+    assert_eq!(rt; stored.map(|bytes| bytes.len()), run.stored);
+    assert!(rt; RECORD.starts_with(stored.unwrap_or(b"")));
     Ok(())
 }
 
@@ -200,6 +265,98 @@ fn check_faulty(rt: &impl Abort, alloc: Global, run: &Faulty) -> Result<(), Fail
 fn faults_are_told_by_the_table(rt: HostRuntime) -> Result<(), Fail> {
     for run in &FAULTY {
         check_faulty(&rt, rt.alloc(), run)?;
+    }
+    Ok(())
+}
+
+/// The port that writes fails at its directory sync: the put before was answered and its record is whole, but the sync
+/// is not answered, since a crash may still take the file's name.
+#[test]
+fn a_failed_directory_sync_is_no_sync(rt: HostRuntime) -> Result<(), Fail> {
+    let alloc = rt.alloc();
+    let plans = vec![in alloc; plan_from(alloc, NEVER), plan_from(alloc, 4)]?;
+    let input = MemSource::new(b"0 put 5 k1 v1\n0 sync\n".to_vec(alloc)?, Vec::new(alloc));
+    let out = MemSink::new(alloc, 100, Vec::new(alloc))?;
+    let outcome = run_over(&rt, alloc, "play", plans, input, out)?;
+    outcome.expect(&rt, 5, b"0 none\nrefused disk\n");
+    assert_eq!(&rt; outcome.stored(), Some(RECORD));
+    outcome.expect_calls(
+        &rt,
+        &[Call::SyncNames, Call::Names],
+        &[Call::Create, Call::Append, Call::SyncFile, Call::SyncNames],
+    );
+    Ok(())
+}
+
+/// A script that is too long to be written here, over a folder whose every call fails: it has some text, then one byte
+/// so many times, and no more. What is printed, and which calls the folder's root was asked for.
+#[derive(Clone, Copy)]
+struct Long {
+    text: &'static [u8],
+    byte: u8,
+    times: usize,
+    status: u8,
+    printed: &'static [u8],
+    calls: &'static [Call],
+}
+
+const LONG: [Long; 4] = [
+    // A value of the greatest length is none too long: the disk is asked.
+    Long {
+        text: b"0 put 5 k1 v1\n0 put 5 k2 ",
+        byte: b'v',
+        times: 1_048_576,
+        status: 5,
+        printed: b"refused disk\n",
+        calls: &[Call::SyncNames],
+    },
+    // A value of one letter more, in the second line: the first line is not played either.
+    Long {
+        text: b"0 put 5 k1 v1\n0 put 5 k2 ",
+        byte: b'v',
+        times: 1_048_577,
+        status: 2,
+        printed: b"refused line 2\n",
+        calls: &[],
+    },
+    // As many bytes as a script may have are read, and their first line is refused.
+    Long {
+        text: b"",
+        byte: b'\n',
+        times: 33_554_432,
+        status: 2,
+        printed: b"refused line 1\n",
+        calls: &[],
+    },
+    // One byte more, and no line is looked at.
+    Long {
+        text: b"",
+        byte: b'\n',
+        times: 33_554_433,
+        status: 2,
+        printed: b"refused too long\n",
+        calls: &[],
+    },
+];
+
+/// Runs a long script, and compares.
+fn check_long(rt: &impl Abort, alloc: Global, run: &Long) -> Result<(), Fail> {
+    let mut script = run.text.to_vec(alloc)?;
+    script.resize(run.text.len().saturating_add(run.times), run.byte)?;
+    let plans = vec![in alloc; plan_from(alloc, 1), plan_from(alloc, 1)]?;
+    let input = MemSource::new(script, Vec::new(alloc));
+    let out = MemSink::new(alloc, 100, Vec::new(alloc))?;
+    let outcome = run_over(rt, alloc, "play", plans, input, out)?;
+    outcome.expect(rt, run.status, run.printed);
+    assert!(rt; outcome.stored().is_none());
+    outcome.expect_calls(rt, run.calls, &[]);
+    Ok(())
+}
+
+#[test]
+fn long_scripts_are_told_by_the_table(rt: HostRuntime) -> Result<(), Fail> {
+    for run in &LONG {
+        check_long(&rt, rt.alloc(), run)?;
     }
     Ok(())
 }

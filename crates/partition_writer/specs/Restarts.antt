@@ -51,6 +51,11 @@ RestartsTo image p k s =
 abbrev pub IsRestartOf : Image → ℕ → Entries → Type 0
 IsRestartOf image p m = (k : Key) → RestartsTo image p k (map.get m k)
 
+-- the image restarts, and to these maps
+pub record RestartsAs (image : Image) (partitions p : ℕ) (m : Entries) : Type 0 where
+  pub restartable : IsRestartable image partitions
+  pub restart : IsRestartOf image p m
+
 -- Such an image restarts, and gives each key of the partition its state after a number of its own commands since the
 -- last answered sync, from what was durable then.
 pub record RecoversTo (image : Image) (partitions p : ℕ) (durable : Entries) (tail : List Command) : Type 0 where

@@ -1,5 +1,5 @@
 -- How what a writer stands for changes with its calls.
-use Rattle.std.specs.Prelude.{◌≡◌, ℕ, ◌+◌, ◌<◌, ◌≤◌, ◌^◌, Bool, true, List, [], ◌∷◌, ◌++◌, length, All, Contains, Option, Some, None, is_none, refl}
+use Rattle.std.specs.Prelude.{◌≡◌, ℕ, ◌+◌, ◌<◌, ◌≤◌, ◌^◌, Bool, true, List, [], ◌∷◌, ◌++◌, length, All, Contains, Option, Some, None, is_none, option_map, refl}
 use Rattle.std.proofs.Common.{sym, ◌∙◌, ap, subst, inl, inr, arith, append_assoc, length-append}
 use Rattle.std.proofs.lemmas.List.{map-append, append-nil, flat_map_more}
 use Rattle.std.proofs.lemmas.List.Elements.{All-nil, All-push, All-weaker, All-head, All-tail, Contains-append_right}
@@ -7,6 +7,7 @@ use Rattle.std.specs.FinMap as map
 use Rattle.hr_base.specs.declared.name.Class.TheVariants.{Value as Values}
 use Rattle.dir_files.specs.Files.{FileState}
 use Rattle.dir_files.specs.Ports.{Port}
+use Rattle.dir_files.specs.Images.{MayLeave, read_of, files_of}
 use Rattle.ram_map.specs.Entries.{Key, Entries, key_at, content_of}
 use Rattle.ram_map.specs.Laws.{get-empty-entries}
 use Rattle.record_format.specs.declared.record.Record.{Record}
@@ -17,7 +18,8 @@ use Rattle.partition_writer.specs.Commands.{Command, Put, command_of, state_afte
 use Rattle.partition_writer.specs.CommandLaws.{state_after_all-append, get-maps_after}
 use Rattle.partition_writer.specs.Accounts.{Account, fresh_account, answered, refused, synced}
 use Rattle.partition_writer.specs.Chunks.{Rising, HasRecords}
-use Rattle.partition_writer.specs.Restarts.{SurvivesCrash}
+use Rattle.partition_writer.specs.Restarts.{IsRestartOf, RecoversTo, RestartsAs, SurvivesCrash}
+use Rattle.partition_writer.specs.RestartLaws.{Fits-nothing_else}
 use Rattle.partition_writer.specs.Crash.{survives}
 use Rattle.partition_writer.specs.Deciding.{commands_of}
 use Rattle.partition_writer.specs.Stored.{first_chunk, Handle, StoredAt, Stores, LeftAt, IsClosed}
@@ -269,4 +271,54 @@ leaves s a size port h small closed =
           refl (omega arith)
           (record { valid = h.valid; low = 1; rising = h.rising; small = omega (arith, h.within, small); maps_are = h.durable_maps })
           (has_records (port.held first_chunk) h.durable s.records h.missing c.at));
+    }
+
+-- ---- what is read of it without a crash
+
+-- all that a crash left is durable
+abbrev durable_file : List ℕ → FileState
+durable_file bytes = record { bytes = bytes; front = length bytes; named = true }
+
+-- what a crash left leaves itself
+leaves_itself : (left : Option (List ℕ)) → MayLeave (option_map durable_file left) None left
+leaves_itself None = tt
+leaves_itself (Some bytes) = record { rest = []; prefix = sym (append-nil bytes); front = omega arith }
+
+read_records : (held : Option FileState) (durable : ℕ) (records : List Record) → LeftAt held durable (spellings records) []
+    → HasRecords (option_map durable_file (option_map (λ file. file.bytes) held)) records [] []
+read_records None durable records h = none_spelled records (ap length h.1)
+read_records (Some file) durable records h = record {
+  bytes = ap spellings (append-nil records) ∙ h.0;
+  front = omega (arith, ap length h.0, length-append file.bytes []);
+  named = inr refl;
+}
+
+none_read : (held : Option FileState) → held ≡ None
+    → option_map durable_file (option_map (λ file. file.bytes) held) ≡ None
+none_read None e = refl
+none_read (Some file) e = cc
+
+-- what is read of a writer that was not halted restarts to its maps
+pub reads : (s : Standing) (a : Account) (size : ℕ) (port : Port) → StandsFor s a size → size ≤ 2 ^ 27 → is_none s.halted ≡ true
+    → ((durable : ℕ) (bytes missing : List ℕ) → Stores s.port s.handle s.fresh s.unsynced durable bytes missing → IsClosed port durable bytes missing) → RestartsAs (read_of port) 1 0 a.maps
+reads s a size port h small running closed =
+    let all : List Record = h.durable ++ s.records in
+    let c = closed (length (spellings h.durable)) (spellings all) [] (stores_whole s a size h running) in
+    let same : all ++ [] ≡ all = append-nil all in
+    let r : RecoversTo (read_of port) 1 0 a.maps [] =
+    survives (files_of (read_of port)) (λ _. None) first_chunk 1 0 all [] [] a.maps
+    (record { values = refl; others = λ other apart. none_read (port.held other) (c.no_other_held other apart); none_gone = λ _. refl })
+    refl (omega arith)
+    (record {
+      valid = subst (λ (rs : List Record). All (IsOfClass Values) rs) (sym same) h.valid;
+      low = 1;
+      rising = subst (λ (rs : List Record). Rising 1 rs) (sym same) h.rising;
+      small = omega (arith, h.within, small, ap (λ (rs : List Record). length (spellings rs)) same);
+      maps_are = h.maps_are running;
+    })
+    (read_records (port.held first_chunk) (length (spellings h.durable)) all c.at)
+    (read_of port) (λ name. leaves_itself (read_of port name)) in
+    record {
+      restartable = r.restartable;
+      restart = subst (λ (m : Entries). IsRestartOf (read_of port) 0 m) (Fits-nothing_else r.maps a.maps r.fits) r.restart;
     }

@@ -58,11 +58,13 @@ impl<F: Folder> Writer<F> {
     ghost use Rattle.hr_base.specs.declared.name.ChunkName.{ChunkName};
     ghost use Rattle.hr_base.specs.Counts.{Rose};
     ghost use Rattle.dir_files.specs.Ports.{IsEmptyPort};
+    ghost use Rattle.dir_files.specs.Images.{read_of};
     ghost use Rattle.ram_map.specs.Entries.{Entries, key_at, content_of};
     ghost use Rattle.record_format.specs.Spelling.{seq_of, spelling};
     ghost use Rattle.record_format.specs.Splits.{IsOfClass};
     ghost use Rattle.partition_writer.specs.Commands.{Put};
     ghost use Rattle.partition_writer.specs.Accounts.{Account, fresh_account, answered, refused, synced};
+    ghost use Rattle.partition_writer.specs.Restarts.{RestartsAs};
     ghost use Rattle.partition_writer.specs.Stored.{first_chunk, handle_of, Stores, IsDurable};
     ghost use Rattle.partition_writer.specs.Standing.{standing, StandsFor, Puts, LosesPut, KeepsRecords, HoldsTail, IsGivenBack, Leaves};
 
@@ -218,6 +220,7 @@ impl<F: Folder> Writer<F> {
     pub fn close(self) -> F
         ensures given { F.tells ≡ true → (a : Account) (size : ℕ) → StandsFor (standing F.port F.count F.sound F.File.name F.state self) a size → IsGivenBack (F.port result) }
         ensures leaves { F.tells ≡ true → (a : Account) (size : ℕ) → StandsFor (standing F.port F.count F.sound F.File.name F.state self) a size → size ≤ 2 ^ 27 → Leaves (F.port result) a }
+        ensures exact { F.tells ≡ true → (a : Account) (size : ℕ) → StandsFor (standing F.port F.count F.sound F.File.name F.state self) a size → size ≤ 2 ^ 27 → (standing F.port F.count F.sound F.File.name F.state self).halted ≡ None → RestartsAs (read_of (F.port result)) 1 0 a.maps }
         ensures others { F.tells ≡ true → (a : Account) (size : ℕ) → StandsFor (standing F.port F.count F.sound F.File.name F.state self) a size → (name : ChunkName) → name ≢ first_chunk → (F.port result).held name ≡ None }
         ensures kept { (standing F.port F.count F.sound F.File.name F.state self).faults ≤ F.count result }
         ensures stays_sound { (standing F.port F.count F.sound F.File.name F.state self).sound ≡ true → (F.sound result ≡ true) × (F.count result ≡ 0) }

@@ -4,6 +4,7 @@ ghost use Rattle.std.specs.Prelude.{◌≡◌, ◌<◌, ◌≤◌, ◌^◌, ◌+
 ghost use Rattle.std.specs.Int.{w32, w64, to_be_bytes};
 ghost use Rattle.record_format.specs.Spelling.{IsRecord, spelling};
 
+use byteorder::{BigEndian, ByteOrder};
 use bytes::Bytes;
 use hr_base::{Memory, Seq};
 
@@ -62,6 +63,24 @@ fn append_record(rec: &Record, out: &mut Vec<u8>) -> Result<(), Memory>
     }
 }
 
+// The bytes of a number, the highest first.
+fn big_endian_u64(number: u64) -> [u8; 8]
+    ensures { result ≡ to_be_bytes w64 number }
+{
+    let mut bytes = [0; 8];
+    BigEndian::write_u64(&mut bytes, number);
+    bytes
+}
+
+// The bytes of a number, the highest first.
+fn big_endian_u32(number: u32) -> [u8; 4]
+    ensures { result ≡ to_be_bytes w32 number }
+{
+    let mut bytes = [0; 4];
+    BigEndian::write_u32(&mut bytes, number);
+    bytes
+}
+
 // Appends a value record's header, key and value, or a front of them where memory runs out.
 fn append_value(
     seq: Seq,
@@ -78,10 +97,10 @@ fn append_value(
         ++ key.now ++ value.now)) }
     ensures kept { take (length out.old.items) out.new.items ≡ out.old.items }
 {
-    out.extend_from_slice(&seq.0.to_be_bytes())?;
-    out.extend_from_slice(&prefix.to_be_bytes())?;
-    out.extend_from_slice(&(key.len() as u32).to_be_bytes())?;
-    out.extend_from_slice(&(value.len() as u32).to_be_bytes())?;
+    out.extend_from_slice(&big_endian_u64(seq.0))?;
+    out.extend_from_slice(&big_endian_u64(prefix))?;
+    out.extend_from_slice(&big_endian_u32(key.len() as u32))?;
+    out.extend_from_slice(&big_endian_u32(value.len() as u32))?;
     out.extend_from_slice(key)?;
     out.extend_from_slice(value)?;
     Ok(())
@@ -95,9 +114,9 @@ fn append_tomb(seq: Seq, prefix: u64, key: &[u8], out: &mut Vec<u8>) -> Result<(
         ++ to_be_bytes w32 (length key.now) ++ key.now)) }
     ensures kept { take (length out.old.items) out.new.items ≡ out.old.items }
 {
-    out.extend_from_slice(&seq.0.to_be_bytes())?;
-    out.extend_from_slice(&prefix.to_be_bytes())?;
-    out.extend_from_slice(&(key.len() as u32).to_be_bytes())?;
+    out.extend_from_slice(&big_endian_u64(seq.0))?;
+    out.extend_from_slice(&big_endian_u64(prefix))?;
+    out.extend_from_slice(&big_endian_u32(key.len() as u32))?;
     out.extend_from_slice(key)?;
     Ok(())
 }
@@ -108,8 +127,8 @@ fn append_clear(prefix: u64, seq: Seq, out: &mut Vec<u8>) -> Result<(), Memory>
         ≡ out.old.items ++ (to_be_bytes w64 prefix ++ to_be_bytes w64 seq.0)) }
     ensures kept { take (length out.old.items) out.new.items ≡ out.old.items }
 {
-    out.extend_from_slice(&prefix.to_be_bytes())?;
-    out.extend_from_slice(&seq.0.to_be_bytes())?;
+    out.extend_from_slice(&big_endian_u64(prefix))?;
+    out.extend_from_slice(&big_endian_u64(seq.0))?;
     Ok(())
 }
 

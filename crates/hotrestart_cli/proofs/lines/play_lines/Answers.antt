@@ -5,11 +5,11 @@ use Rattle.hotrestart_cli.proofs.lines.play_lines.Goals as goal
 
 pub returns-in-NoReply-clause-played : goal.returns-in-NoReply-clause-played
 returns-in-NoReply-clause-played g c =
-    played_no_reply _ _ c.line-item.result c.loop-line-test.true c.line-item.is _ _ _ _ _ _ c.loop-line.invariant.so_far c.in-NoReply.ensures.account
+    played_no_reply _ _ c.line-item.result c.loop-line-test.true c.line-item.is _ _ _ _ _ _ c.loop-line.invariant.so_far c.in-NoReply.ensures.replies.1 c.in-NoReply.ensures.account
 
 pub returns-in-NoMemory-clause-played : goal.returns-in-NoMemory-clause-played
 returns-in-NoMemory-clause-played g c =
-    played_unanswered _ _ c.loop-line.line-index _ _ _ _ _ c.loop-line.invariant.so_far c.loop-line-test.true (line_size c.line-item.result) c.in-NoMemory.ensures.account
+    played_unanswered _ _ c.loop-line.line-index _ _ _ _ _ c.loop-line.invariant.so_far c.loop-line-test.true c.in-NoMemory.ensures.replies.1 (line_size c.line-item.result) c.in-NoMemory.ensures.account
     (size_fits _ _ c.line-item.result c.loop-line-test.true c.line-item.is)
 
 pub returns-in-DiskFailed-clause-played : goal.returns-in-DiskFailed-clause-played
@@ -18,7 +18,7 @@ returns-in-DiskFailed-clause-played g c =
 
 pub returns-in-Err-clause-played : goal.returns-in-Err-clause-played
 returns-in-Err-clause-played g c =
-    played_untaken _ _ c.line-item.result c.loop-line-test.true c.line-item.is _ _ _ _ _ _ _ c.answer.new.text.items c.loop-line.invariant.so_far c.in-Answered.ensures.replies.0 c.in-Answered.ensures.account
+    played_untaken _ _ c.line-item.result c.loop-line-test.true c.line-item.is _ _ _ _ _ _ _ c.answer.new.text.items c.loop-line.invariant.so_far c.in-Answered.ensures.replies.0 c.in-Answered.ensures.replies.2 c.in-Answered.ensures.account
     (rw c.as_slice.ensures.value at c.in-Err.ensures.err)
 
 pub loop-line-preserved : goal.loop-line-preserved

@@ -9,7 +9,7 @@ returns-clause-ok c =
     let seq = to_be_bytes w64 c.args.seq.0 in
     let prefix = to_be_bytes w64 c.args.prefix in
     let key_length = to_be_bytes w32 (length c.args.key.now) in
-    let at_seq = begun_bytes old seq c.to_be_bytes.result c.extend_from_slice.new.self.items c.to_be_bytes.ensures c.in_ok-extend_from_slice.ensures.items in
-    let at_prefix = appended_bytes old (seq) prefix c.to_be_bytes-2.result c.extend_from_slice.new.self.items c.extend_from_slice-2.new.self.items at_seq c.to_be_bytes-2.ensures c.in_ok-extend_from_slice-2.ensures.items in
-    let at_key_length = appended_bytes old (seq ++ prefix) key_length c.to_be_bytes-3.result c.extend_from_slice-2.new.self.items c.extend_from_slice-3.new.self.items at_prefix c.to_be_bytes-3.ensures c.in_ok-extend_from_slice-3.ensures.items in
+    let at_seq = begun_bytes old seq c.big_endian_u64.result c.extend_from_slice.new.self.items c.big_endian_u64.ensures c.in_ok-extend_from_slice.ensures.items in
+    let at_prefix = appended_bytes old (seq) prefix c.big_endian_u64-2.result c.extend_from_slice.new.self.items c.extend_from_slice-2.new.self.items at_seq c.big_endian_u64-2.ensures c.in_ok-extend_from_slice-2.ensures.items in
+    let at_key_length = appended_bytes old (seq ++ prefix) key_length c.big_endian_u32.result c.extend_from_slice-2.new.self.items c.extend_from_slice-3.new.self.items at_prefix c.big_endian_u32.ensures c.in_ok-extend_from_slice-3.ensures.items in
     appended old (seq ++ prefix ++ key_length) c.args.key.now c.extend_from_slice-3.new.self.items c.extend_from_slice-4.new.self.items at_key_length c.in_ok-extend_from_slice-4.ensures.items

@@ -1,0 +1,2 @@
+mod NameOrders
+mod Refusals
