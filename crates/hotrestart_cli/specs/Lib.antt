@@ -1,11 +1,8 @@
 pub mod Outcome
 pub mod NameOrder
 pub mod Session
-pub mod SessionLaws
 pub mod Writing
 pub mod Reading
 pub mod Words
 pub mod Folders
-pub mod FolderLaws
-pub mod Sizes
 pub mod Scripts

@@ -1,65 +1,7 @@
--- How far a piece was written.
-use Rattle.std.specs.Prelude.{◌≡◌, ℕ, ◌+◌, List, [], ◌++◌, length, take, drop, Option, Some, None, refl, zero, suc, ◌∷◌}
-use Rattle.std.proofs.Common.{sym, ◌∙◌, ap, arith, append_assoc, take-append-drop}
-use Rattle.std.proofs.lemmas.List.{append-nil}
-use Rattle.hotrestart_cli.specs.Outcome.{Takes, TakesFront}
+-- What a sink tells.
+use Rattle.std.specs.Prelude.{◌≡◌, ℕ, List, Option, Some, None}
 
--- a front of the piece was taken, and the rest is to be written; a sink that tells nothing goes on telling nothing
-abbrev pub Written : Option (List ℕ) → Option (List ℕ) → List ℕ → List ℕ → Type 0
-Written None new piece rest = new ≡ None
-Written (Some old) new piece rest = (front : List ℕ) × (new ≡ Some (old ++ front)) × (piece ≡ front ++ rest)
-
-pub written_none : (old : Option (List ℕ)) (piece : List ℕ) → Written old old piece piece
-written_none None piece = refl
-written_none (Some old) piece = ([], ap Some (sym (append-nil old)), refl)
-
+-- a sink that tells nothing goes on telling nothing
 abbrev pub StaysUntold : Option (List ℕ) → Option (List ℕ) → Type 0
 StaysUntold None new = new ≡ None
 StaysUntold (Some old) new = Unit {0}
-
-written_past : (old : List ℕ) (mid new : Option (List ℕ)) (piece rest : List ℕ) (n : ℕ) → Written (Some old) mid piece rest → Takes mid new (take n rest) → Written (Some old) new piece (drop n rest)
-written_past old None new piece rest n w t = cc
-written_past old (Some had) new piece rest n w t =
-    let is : had ≡ old ++ w.0 = cc in (
-      w.0 ++ take n rest,
-      t ∙ ap (λ (h : List ℕ). Some (h ++ take n rest)) is ∙ ap Some (append_assoc old w.0 (take n rest)),
-      w.2 ∙ ap (λ (r : List ℕ). w.0 ++ r) (sym (take-append-drop n rest)) ∙ sym (append_assoc w.0 (take n rest) (drop n rest)),
-    )
-
--- some more of it was taken
-pub written_more : (old mid new : Option (List ℕ)) (piece rest : List ℕ) (n : ℕ) → Written old mid piece rest → Takes mid new (take n rest) → StaysUntold mid new → Written old new piece (drop n rest)
-written_more None None new piece rest n w t u = u
-written_more None (Some had) new piece rest n w t u = cc
-written_more (Some old) mid new piece rest n w t u = written_past old mid new piece rest n w t
-
--- all of it was taken
-pub written_all : (old new : Option (List ℕ)) (piece : List ℕ) → Written old new piece [] → Takes old new piece
-written_all None new piece w = tt
-written_all (Some old) new piece w = w.1 ∙ ap (λ (p : List ℕ). Some (old ++ p)) (sym (w.2 ∙ append-nil w.0))
-
-take_past_at : (front rest : List ℕ) (n k : ℕ) → n ≡ length front + k → take n (front ++ rest) ≡ front ++ take k rest
-take_past_at [] rest n k e = ap (λ (m : ℕ). take m rest) (omega (arith, e))
-take_past_at (x ∷ front) rest zero k e = absurd (omega (arith, e))
-take_past_at (x ∷ front) rest (suc n) k e = ap (λ (xs : List ℕ). x ∷ xs) (take_past_at front rest n k (omega (arith, e)))
-
-take_past : (front rest : List ℕ) (k : ℕ) → take (length front + k) (front ++ rest) ≡ front ++ take k rest
-take_past front rest k = take_past_at front rest (length front + k) k refl
-
-torn_past : (old : List ℕ) (mid new : Option (List ℕ)) (piece rest : List ℕ) → Written (Some old) mid piece rest → TakesFront mid new rest → TakesFront (Some old) new piece
-torn_past old None new piece rest w t = cc
-torn_past old (Some had) new piece rest w t =
-    let is : had ≡ old ++ w.0 = cc in (
-      length w.0 + t.0,
-      t.1 ∙ ap (λ (h : List ℕ). Some (h ++ take t.0 rest)) is ∙ ap Some (append_assoc old w.0 (take t.0 rest))
-          ∙ ap (λ (p : List ℕ). Some (old ++ p)) (sym (take_past w.0 rest t.0) ∙ ap (λ (p : List ℕ). take (length w.0 + t.0) p) (sym w.2)),
-    )
-
--- it failed with some more of it taken
-pub written_torn : (old mid new : Option (List ℕ)) (piece rest : List ℕ) → Written old mid piece rest → TakesFront mid new rest → TakesFront old new piece
-written_torn None mid new piece rest w t = tt
-written_torn (Some old) mid new piece rest w t = torn_past old mid new piece rest w t
-
--- what is told stays told, and what is not told does not come to be told
-pub untold_of_written : (old new : Option (List ℕ)) (piece rest : List ℕ) → Written old new piece rest → StaysUntold old new
-untold_of_written None new piece rest w = w
-untold_of_written (Some old) new piece rest w = tt

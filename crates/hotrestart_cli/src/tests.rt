@@ -179,7 +179,7 @@ const SOUND: Faulty = Faulty {
     stored: Some(28),
 };
 
-const FAULTY: [Faulty; 10] = [
+const FAULTY: [Faulty; 11] = [
     SOUND,
     // How finely the bytes come and go changes nothing.
     Faulty { most: 1, ..SOUND },
@@ -235,6 +235,14 @@ const FAULTY: [Faulty; 10] = [
         port: 4,
         status: 5,
         printed: b"0 none\nrefused disk\n",
+        ..SOUND
+    },
+    // The disk fails, and then the sink before the last line is whole.
+    Faulty {
+        port: 4,
+        room: 10,
+        status: 4,
+        printed: b"0 none\nref",
         ..SOUND
     },
 ];

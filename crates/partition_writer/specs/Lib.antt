@@ -1,13 +1,9 @@
 pub mod Commands
-pub mod CommandLaws
 pub mod Accounts
 pub mod Restarts
 pub mod Chunks
 pub mod Deciding
 pub mod Stored
-pub mod StoredLaws
 pub mod Crash
 pub mod Puts
 pub mod Standing
-pub mod StandingLaws
-pub mod RestartLaws

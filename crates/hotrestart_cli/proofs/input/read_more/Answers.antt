@@ -1,5 +1,5 @@
 use Rattle.std.proofs.Common.{arith}
-use Rattle.hotrestart_cli.specs.Reading.{reads_too_much}
+use Rattle.hotrestart_cli.proofs.Readings.{reads_too_much}
 use Rattle.hotrestart_cli.proofs.input.read_more.Goals as goal
 
 -- what was read is a front of all bytes

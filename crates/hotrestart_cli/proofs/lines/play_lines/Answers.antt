@@ -1,6 +1,6 @@
 use Rattle.std.proofs.Common.{arith}
 use Rattle.hotrestart_cli.specs.Session.{line_size}
-use Rattle.hotrestart_cli.specs.SessionLaws.{SoFar-more, played_whole, played_unanswered, size_fits, played_no_reply, played_refused, played_untaken}
+use Rattle.hotrestart_cli.proofs.SessionLaws.{SoFar-more, played_whole, played_unanswered, size_fits, played_no_reply, played_refused, played_untaken}
 use Rattle.hotrestart_cli.proofs.lines.play_lines.Goals as goal
 
 pub returns-in-NoReply-clause-played : goal.returns-in-NoReply-clause-played

@@ -1,6 +1,6 @@
 use Rattle.std.proofs.Common.{◌≤◌}
 use Rattle.partition_writer.specs.Standing.{standing}
-use Rattle.hotrestart_cli.specs.SessionLaws.{SoFar}
+use Rattle.hotrestart_cli.proofs.SessionLaws.{SoFar}
 use Rattle.hotrestart_cli.proofs.lines.play_lines.Given as goal
 
 abbrev pub invariant-loop-line : goal.invariant-loop-line

@@ -1,5 +1,5 @@
-use Rattle.hotrestart_cli.specs.FolderLaws.{ran_after, SamePort-itself}
-use Rattle.hotrestart_cli.specs.NameOrder.{first_synced}
+use Rattle.hotrestart_cli.proofs.FolderLaws.{ran_after, SamePort-itself}
+use Rattle.hotrestart_cli.proofs.NameOrders.{first_synced}
 use Rattle.hotrestart_cli.proofs.play.play.Goals as goal
 
 pub returns-in-Ok-clause-ran : goal.returns-in-Ok-clause-ran

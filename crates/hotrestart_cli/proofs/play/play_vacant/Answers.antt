@@ -1,4 +1,4 @@
-use Rattle.hotrestart_cli.specs.FolderLaws.{session_ran, ended_of_text}
+use Rattle.hotrestart_cli.proofs.FolderLaws.{session_ran, ended_of_text}
 use Rattle.hotrestart_cli.proofs.play.play_vacant.Goals as goal
 
 pub returns-in-Ok-clause-ran : goal.returns-in-Ok-clause-ran

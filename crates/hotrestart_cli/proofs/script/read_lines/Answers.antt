@@ -1,6 +1,6 @@
 use Rattle.std.proofs.Common.{arith}
-use Rattle.hotrestart_cli.specs.Reading.{is_read}
-use Rattle.hotrestart_cli.specs.Sizes.{script_fits}
+use Rattle.hotrestart_cli.proofs.Readings.{is_read}
+use Rattle.hotrestart_cli.proofs.Sizes.{script_fits}
 use Rattle.hotrestart_cli.proofs.script.read_lines.Goals as goal
 
 pub returns-in-Ok-read_script-clause-few : goal.returns-in-Ok-read_script-clause-few

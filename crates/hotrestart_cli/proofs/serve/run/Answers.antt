@@ -2,7 +2,7 @@ use Rattle.std.proofs.Common.{◌≡◌, true, subst, sym, List}
 use Rattle.script_text.specs.declared.line.Line.{Line}
 use Rattle.hotrestart_cli.specs.Words.{is_play}
 use Rattle.hotrestart_cli.specs.Folders.{IsScriptOf}
-use Rattle.hotrestart_cli.specs.FolderLaws.{because_played, tellable_played, words_played, input_played}
+use Rattle.hotrestart_cli.proofs.FolderLaws.{because_played, tellable_played, words_played, input_played}
 use Rattle.hotrestart_cli.proofs.Refusals.{unfit_script}
 use Rattle.hotrestart_cli.proofs.serve.run.Goals as goal
 

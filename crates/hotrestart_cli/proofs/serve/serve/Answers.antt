@@ -1,7 +1,7 @@
 use Rattle.std.proofs.Common.{◌≡◌, ◌∙◌, ap, true, false, Bool, inl, inr}
 use Rattle.hotrestart_cli.specs.Outcome.{last_line, status_of}
 use Rattle.hotrestart_cli.specs.Folders.{Served}
-use Rattle.hotrestart_cli.specs.FolderLaws.{words_told, whole_told, done_told, refused_told, not_built_told}
+use Rattle.hotrestart_cli.proofs.FolderLaws.{words_told, whole_told, done_told, refused_told, not_built_told}
 use Rattle.hotrestart_cli.proofs.Refusals.{early_told, unfit_told, fit_refused, all_done, input_told, disk_told, rose_later, rose_earlier, held_told, not_whole_by, not_refused}
 use Rattle.hotrestart_cli.proofs.serve.serve.Goals as goal
 

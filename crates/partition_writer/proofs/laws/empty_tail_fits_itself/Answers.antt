@@ -1,4 +1,4 @@
-use Rattle.partition_writer.specs.RestartLaws.{Fits-itself, Fits-nothing_else}
+use Rattle.partition_writer.proofs.RestartLaws.{Fits-itself, Fits-nothing_else}
 use Rattle.partition_writer.proofs.laws.empty_tail_fits_itself.Goals as goal
 
 pub returns-clause-itself : goal.returns-clause-itself

@@ -1,4 +1,4 @@
-use Rattle.partition_writer.specs.Deciding.{decided}
+use Rattle.partition_writer.proofs.DecidingLaws.{decided}
 use Rattle.partition_writer.proofs.laws.last_decides.Goals as goal
 
 pub returns : goal.returns

@@ -1,4 +1,4 @@
-use Rattle.partition_writer.specs.CommandLaws.{get-maps_after_all}
+use Rattle.partition_writer.proofs.CommandLaws.{get-maps_after_all}
 use Rattle.partition_writer.proofs.laws.maps_after_commands.Goals as goal
 
 pub returns : goal.returns

@@ -1,4 +1,4 @@
-use Rattle.partition_writer.specs.RestartLaws.{one_restart_of}
+use Rattle.partition_writer.proofs.RestartLaws.{one_restart_of}
 use Rattle.partition_writer.proofs.laws.one_restart.Goals as goal
 
 pub returns : goal.returns

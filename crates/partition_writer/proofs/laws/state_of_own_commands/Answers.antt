@@ -1,4 +1,4 @@
-use Rattle.partition_writer.specs.CommandLaws.{state_after_all-commands_on}
+use Rattle.partition_writer.proofs.CommandLaws.{state_after_all-commands_on}
 use Rattle.partition_writer.proofs.laws.state_of_own_commands.Goals as goal
 
 pub returns : goal.returns

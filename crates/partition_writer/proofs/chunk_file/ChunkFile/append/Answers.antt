@@ -1,5 +1,5 @@
 use Rattle.std.proofs.Common.{◌++◌, rules}
-use Rattle.partition_writer.specs.StoredLaws.{Stores-missing}
+use Rattle.partition_writer.proofs.StoredLaws.{Stores-missing}
 use Rattle.partition_writer.proofs.chunk_file.ChunkFile.append.Goals as goal
 
 -- no file could be created: all bytes are missing

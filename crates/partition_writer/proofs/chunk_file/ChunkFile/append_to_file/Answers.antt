@@ -1,6 +1,6 @@
 use Rattle.std.proofs.Common.{◌≡◌, drop}
 use Rattle.dir_files.specs.declared.folder.FolderRefusal.{FolderRefusal}
-use Rattle.partition_writer.specs.StoredLaws.{Stores-torn}
+use Rattle.partition_writer.proofs.StoredLaws.{Stores-torn}
 use Rattle.partition_writer.proofs.chunk_file.ChunkFile.append_to_file.Goals as goal
 
 -- what the disk took of the piece is a front of it

@@ -1,5 +1,5 @@
 use Rattle.std.proofs.Common.{rules}
-use Rattle.partition_writer.specs.StandingLaws.{stand_begin}
+use Rattle.partition_writer.proofs.StandingLaws.{stand_begin}
 use Rattle.partition_writer.proofs.writer.Writer.begin.Goals as goal
 
 pub returns-clause-account : goal.returns-clause-account

@@ -1,5 +1,5 @@
 use Rattle.std.proofs.Common.{ap, is_none}
-use Rattle.partition_writer.specs.StandingLaws.{leaves, reads}
+use Rattle.partition_writer.proofs.StandingLaws.{leaves, reads}
 use Rattle.partition_writer.proofs.writer.Writer.close.Goals as goal
 
 pub returns-clause-leaves : goal.returns-clause-leaves

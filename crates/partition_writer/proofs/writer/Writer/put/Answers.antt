@@ -2,7 +2,7 @@ use Rattle.std.proofs.Common.{◌∙◌, List, ℕ, ap, Err, IsErrOf, rules, ari
 use Rattle.record_format.specs.Laws.{spelling_length}
 use Rattle.partition_writer.specs.declared.refusal.WriteRefusal.{WriteRefusal}
 use Rattle.partition_writer.specs.Puts.{put_record}
-use Rattle.partition_writer.specs.StandingLaws.{stand_put, stand_lost, holds_tail}
+use Rattle.partition_writer.proofs.StandingLaws.{stand_put, stand_lost, holds_tail}
 use Rattle.partition_writer.proofs.writer.Writer.put.Goals as goal
 
 -- a refusal is the same whatever the answer would have been

@@ -1,5 +1,5 @@
 use Rattle.std.proofs.Common.{rules, refl}
-use Rattle.partition_writer.specs.StandingLaws.{stand_synced, stores_whole}
+use Rattle.partition_writer.proofs.StandingLaws.{stand_synced, stores_whole}
 use Rattle.partition_writer.proofs.writer.Writer.sync.Goals as goal
 
 pub returns-in-Ok-clause-account : goal.returns-in-Ok-clause-account

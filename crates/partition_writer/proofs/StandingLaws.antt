@@ -15,12 +15,12 @@ use Rattle.record_format.specs.Spelling.{seq_of, spelling, spellings}
 use Rattle.record_format.specs.Splits.{IsOfClass, Splits}
 use Rattle.record_format.specs.Laws.{spelling_fills, whole_spellings_split}
 use Rattle.partition_writer.specs.Commands.{Command, Put, command_of, state_after, state_after_all}
-use Rattle.partition_writer.specs.CommandLaws.{state_after_all-append, get-maps_after}
+use Rattle.partition_writer.proofs.CommandLaws.{state_after_all-append, get-maps_after}
 use Rattle.partition_writer.specs.Accounts.{Account, fresh_account, answered, refused, synced}
 use Rattle.partition_writer.specs.Chunks.{Rising, HasRecords}
 use Rattle.partition_writer.specs.Restarts.{IsRestartOf, RecoversTo, RestartsAs, SurvivesCrash}
-use Rattle.partition_writer.specs.RestartLaws.{Fits-nothing_else}
-use Rattle.partition_writer.specs.Crash.{survives}
+use Rattle.partition_writer.proofs.RestartLaws.{Fits-nothing_else}
+use Rattle.partition_writer.proofs.CrashLaws.{survives}
 use Rattle.partition_writer.specs.Deciding.{commands_of}
 use Rattle.partition_writer.specs.Stored.{first_chunk, Handle, StoredAt, Stores, LeftAt, IsClosed}
 use Rattle.partition_writer.specs.Puts.{put_record}

@@ -15,7 +15,7 @@ use Rattle.partition_writer.specs.Standing.{IsGivenBack, Leaves}
 use Rattle.partition_writer.specs.Standing.{Standing, StandsFor}
 use Rattle.hotrestart_cli.specs.declared.ended.Ended.{Ended}
 use Rattle.script_text.specs.Replies.{replies}
-use Rattle.hotrestart_cli.specs.SessionLaws.{Takes-append}
+use Rattle.hotrestart_cli.proofs.SessionLaws.{Takes-append}
 use Rattle.std.proofs.lemmas.List.{append-nil}
 use Rattle.hotrestart_cli.specs.Session.{lines_size, account_at, TextAt, Played}
 use Rattle.hotrestart_cli.specs.declared.ended.Ended.TheVariants.{Whole, Words, TooLong, Line as BadLine, Input, Sink, Disk, NotBuilt, Memory}

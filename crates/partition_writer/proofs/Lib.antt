@@ -1,0 +1,6 @@
+mod CommandLaws
+mod CrashLaws
+mod DecidingLaws
+mod RestartLaws
+mod StandingLaws
+mod StoredLaws
