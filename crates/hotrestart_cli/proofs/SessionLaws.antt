@@ -1,6 +1,7 @@
 -- One more line of a session.
 use Rattle.std.specs.Prelude.{◌≡◌, ℕ, ◌+◌, ◌<◌, ◌≤◌, Bool, true, List, [], ◌∷◌, ◌++◌, length, take, Option, Some, None, slice_get, slice_index_or, drop, refl, zero, suc}
 use Rattle.std.proofs.Common.{sym, ◌∙◌, ap, subst, arith, append_assoc, take-append-drop}
+use Rattle.std.proofs.Math.Seq.{take-append-add}
 use Rattle.std.proofs.lemmas.List.{append-nil, take_more, take_all}
 use Rattle.std.proofs.lemmas.List.Sums.{sum_by-append}
 use Rattle.ram_map.specs.Entries.{Entries}
@@ -8,7 +9,7 @@ use Rattle.script_text.specs.declared.line.Line.{Line}
 use Rattle.script_text.specs.Replies.{replies, text_after, maps_after_line, maps_after_lines}
 use Rattle.partition_writer.specs.Accounts.{Account}
 use Rattle.partition_writer.specs.Standing.{Standing, StandsFor}
-use Rattle.hotrestart_cli.specs.Outcome.{Takes, TakesFront}
+use Rattle.hotrestart_cli.specs.Outcome.{Takes, TakesFront, TakesAtLeast}
 use Rattle.hotrestart_cli.specs.declared.ended.Ended.TheVariants.{Whole, Sink, Disk, Memory}
 use Rattle.hotrestart_cli.specs.Session.{account_after_line, account_after_lines, account_after_refused, line_size, lines_size, Played}
 
@@ -44,18 +45,14 @@ pub Takes-nothing : (old : Option (List ℕ)) → Takes old old []
 Takes-nothing None = tt
 Takes-nothing (Some x) = ap Some (sym (append-nil x))
 
-take_past_at : (front rest : List ℕ) (n k : ℕ) → n ≡ length front + k → take n (front ++ rest) ≡ front ++ take k rest
-take_past_at [] rest n k e = ap (λ (m : ℕ). take m rest) (omega (arith, e))
-take_past_at (x ∷ front) rest zero k e = absurd (omega (arith, e))
-take_past_at (x ∷ front) rest (suc n) k e = ap (λ (xs : List ℕ). x ∷ xs) (take_past_at front rest n k (omega (arith, e)))
-
-pub TakesFront-append : (old mid new : Option (List ℕ)) (a b : List ℕ) → Takes old mid a → TakesFront mid new b → TakesFront old new (a ++ b)
-TakesFront-append None mid new a b s t = tt
-TakesFront-append (Some x) None new a b s t = cc
-TakesFront-append (Some x) (Some y) new a b s t =
+pub TakesAtLeast-append : (old mid new : Option (List ℕ)) (a b : List ℕ) → Takes old mid a → TakesFront mid new b → TakesAtLeast (length a) old new (a ++ b)
+TakesAtLeast-append None mid new a b s t = tt
+TakesAtLeast-append (Some x) None new a b s t = cc
+TakesAtLeast-append (Some x) (Some y) new a b s t =
     let is : y ≡ x ++ a = cc in (
       length a + t.0,
-      t.1 ∙ ap (λ (z : List ℕ). Some (z ++ take t.0 b)) is ∙ ap Some (append_assoc x a (take t.0 b)) ∙ ap (λ (z : List ℕ). Some (x ++ z)) (sym (take_past_at a b (length a + t.0) t.0 refl)),
+      omega arith,
+      t.1 ∙ ap (λ (z : List ℕ). Some (z ++ take t.0 b)) is ∙ ap Some (append_assoc x a (take t.0 b)) ∙ ap (λ (z : List ℕ). Some (x ++ z)) (sym (take-append-add a b t.0)),
     )
 
 -- the line at this place
@@ -202,11 +199,14 @@ module _ (lines : List Line) (i : ℕ) (line : Line) (within : i < length lines)
     within = omega (arith, within);
     all = λ e. cc;
     running = λ _. running;
-    text =
-        subst (λ (t : List ℕ). TakesFront before now t)
-        (ap (λ (t : List ℕ). replies (take i lines) old.maps ++ t) (text_is ∙ ap (text_after line) so.maps) ∙ sym (replies-push (take i lines) line old.maps)
-        ∙ ap (λ (ls : List Line). replies ls old.maps) (sym (one_more lines i line within is)))
-        (TakesFront-append before then' now (replies (take i lines) old.maps) text so.text took);
+    text = (
+      i,
+      refl,
+      subst (λ (t : List ℕ). TakesAtLeast (length (replies (take i lines) old.maps)) before now t)
+          (ap (λ (t : List ℕ). replies (take i lines) old.maps ++ t) (text_is ∙ ap (text_after line) so.maps) ∙ sym (replies-push (take i lines) line old.maps)
+          ∙ ap (λ (ls : List Line). replies ls old.maps) (sym (one_more lines i line within is)))
+          (TakesAtLeast-append before then' now (replies (take i lines) old.maps) text so.text took),
+    );
     account = λ t a size h.
         subst (λ (b : Account). StandsFor new b (size + lines_size lines)) (sym (account_more a))
         (StandsFor-more new _ _ _ (account t _ _ (so.account t a size h)) (omega (arith, size_fits)));

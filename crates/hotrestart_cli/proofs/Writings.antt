@@ -1,6 +1,7 @@
 -- How far a piece was written.
-use Rattle.std.specs.Prelude.{◌≡◌, ℕ, ◌+◌, List, [], ◌++◌, length, take, drop, Option, Some, None, refl, zero, suc, ◌∷◌}
-use Rattle.std.proofs.Common.{sym, ◌∙◌, ap, arith, append_assoc, take-append-drop}
+use Rattle.std.specs.Prelude.{◌≡◌, ℕ, ◌+◌, List, [], ◌++◌, length, take, drop, Option, Some, None, refl}
+use Rattle.std.proofs.Common.{sym, ◌∙◌, ap, append_assoc, take-append-drop}
+use Rattle.std.proofs.Math.Seq.{take-append-add}
 use Rattle.std.proofs.lemmas.List.{append-nil}
 use Rattle.hotrestart_cli.specs.Outcome.{Takes, TakesFront}
 use Rattle.hotrestart_cli.specs.Writing.{StaysUntold}
@@ -34,21 +35,13 @@ pub written_all : (old new : Option (List ℕ)) (piece : List ℕ) → Written o
 written_all None new piece w = tt
 written_all (Some old) new piece w = w.1 ∙ ap (λ (p : List ℕ). Some (old ++ p)) (sym (w.2 ∙ append-nil w.0))
 
-take_past_at : (front rest : List ℕ) (n k : ℕ) → n ≡ length front + k → take n (front ++ rest) ≡ front ++ take k rest
-take_past_at [] rest n k e = ap (λ (m : ℕ). take m rest) (omega (arith, e))
-take_past_at (x ∷ front) rest zero k e = absurd (omega (arith, e))
-take_past_at (x ∷ front) rest (suc n) k e = ap (λ (xs : List ℕ). x ∷ xs) (take_past_at front rest n k (omega (arith, e)))
-
-take_past : (front rest : List ℕ) (k : ℕ) → take (length front + k) (front ++ rest) ≡ front ++ take k rest
-take_past front rest k = take_past_at front rest (length front + k) k refl
-
 torn_past : (old : List ℕ) (mid new : Option (List ℕ)) (piece rest : List ℕ) → Written (Some old) mid piece rest → TakesFront mid new rest → TakesFront (Some old) new piece
 torn_past old None new piece rest w t = cc
 torn_past old (Some had) new piece rest w t =
     let is : had ≡ old ++ w.0 = cc in (
       length w.0 + t.0,
       t.1 ∙ ap (λ (h : List ℕ). Some (h ++ take t.0 rest)) is ∙ ap Some (append_assoc old w.0 (take t.0 rest))
-          ∙ ap (λ (p : List ℕ). Some (old ++ p)) (sym (take_past w.0 rest t.0) ∙ ap (λ (p : List ℕ). take (length w.0 + t.0) p) (sym w.2)),
+          ∙ ap (λ (p : List ℕ). Some (old ++ p)) (sym (take-append-add w.0 rest t.0) ∙ ap (λ (p : List ℕ). take (length w.0 + t.0) p) (sym w.2)),
     )
 
 -- it failed with some more of it taken

@@ -1,5 +1,5 @@
 -- How a session ends, and what is told of it.
-use Rattle.std.specs.Prelude.{◌≡◌, ◌⊎◌, ℕ, List, [], ◌++◌, take, Option, Some, None, codes, decimal}
+use Rattle.std.specs.Prelude.{◌≡◌, ◌≤◌, ◌⊎◌, ℕ, List, [], ◌++◌, take, Option, Some, None, codes, decimal}
 use Rattle.hr_base.specs.Names.{IsChunkName, name_text}
 use Rattle.hotrestart_cli.specs.declared.ended.Ended.{Ended}
 use Rattle.hotrestart_cli.specs.declared.ended.Ended.TheVariants.{Whole, Words, TooLong, Line, Input, Sink, Disk, NotBuilt, Memory}
@@ -38,6 +38,11 @@ abbrev pub TakesFront : Option (List ℕ) → Option (List ℕ) → List ℕ →
 TakesFront None new bytes = Unit {0}
 TakesFront (Some old) new bytes = (n : ℕ) × (new ≡ Some (old ++ take n bytes))
 
+-- the sink took a front of these bytes that has at least so many
+abbrev pub TakesAtLeast : ℕ → Option (List ℕ) → Option (List ℕ) → List ℕ → Type 0
+TakesAtLeast least None new bytes = Unit {0}
+TakesAtLeast least (Some old) new bytes = (n : ℕ) × (least ≤ n) × (new ≡ Some (old ++ take n bytes))
+
 -- How the status and the last line tell the end: as they should; or that there was no memory to tell it; or the sink
 -- failed meanwhile, with a front of the last line taken.
 pub data Tells : Ended → ℕ → Option (List ℕ) → Option (List ℕ) → Type 0 where
@@ -70,7 +75,7 @@ IsTellable Sink = Unit {0}
 IsTellable Disk = Unit {0}
 IsTellable Memory = Unit {0}
 
--- how a session ends that made no call of the folder
+-- how a session ends that left the folder as it was
 abbrev pub IsEarly : Ended → Type 0
 IsEarly Words = Unit {0}
 IsEarly TooLong = Unit {0}

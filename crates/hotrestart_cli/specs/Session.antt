@@ -11,7 +11,7 @@ use Rattle.hotrestart_cli.specs.declared.ended.Ended.{Ended}
 use Rattle.hotrestart_cli.specs.declared.ended.Ended.TheVariants.{Whole, Words, TooLong, Line as BadLine, Input, Sink, Disk, NotBuilt, Memory}
 use Rattle.hotrestart_cli.specs.declared.step.Step.{Step}
 use Rattle.hotrestart_cli.specs.declared.step.Step.TheVariants.{Answered, NoReply, NoMemory, DiskFailed}
-use Rattle.hotrestart_cli.specs.Outcome.{Takes, TakesFront}
+use Rattle.hotrestart_cli.specs.Outcome.{Takes, TakesAtLeast}
 
 -- the account after a line that was answered
 abbrev pub account_after_line : Line → Account → Account
@@ -63,12 +63,12 @@ account_after_step DiskFailed line a = account_after_refused (Some line) a
 
 -- ---- lines
 
--- what was written in a session that ended so after so many answered lines: the replies to them, of which a failing
--- sink took a front, and the last of which is missing where there was no memory for it
+-- what was written in a session that ended so after so many answered lines: the replies to them, but that a failing
+-- sink took a front of the last one, and that the last one is missing where there was no memory for it
 abbrev pub TextAt : Ended → List Line → ℕ → Entries → Option (List ℕ) → Option (List ℕ) → Type 0
 TextAt Whole lines count m old new = Takes old new (replies lines m)
 TextAt Disk lines count m old new = Takes old new (replies (take count lines) m)
-TextAt Sink lines count m old new = TakesFront old new (replies (take count lines) m)
+TextAt Sink lines count m old new = (told : ℕ) × (count ≡ told + 1) × TakesAtLeast (length (replies (take told lines) m)) old new (replies (take count lines) m)
 TextAt Memory lines count m old new = (told : ℕ) × (told ≤ count) × (count ≤ told + 1) × Takes old new (replies (take told lines) m)
 TextAt Words lines count m old new = ⊥
 TextAt TooLong lines count m old new = ⊥

@@ -78,10 +78,10 @@ pub fn serve<F: Folder, S: Source, K: Sink>(
     ensures words { result ≡ 1 ↔ (is_play words.now ≡ false) }
     ensures idle { result ≡ 1 → (folder.new ≡ folder.old) × (input.new ≡ input.old) × (out.new ≡ out.old) }
     // Status 2: more was read than a script may have, or a line is the first that is none; that is told, and nothing
-    // else. For such a script no call is made of the folder, whatever the status.
+    // else. For such a script the folder stays as it was, whatever the status.
     ensures refused { result ≡ 2 → WasRefused (S.left input.old) (S.left input.new) (K.taken out.old) (K.taken out.new) }
     ensures unfit { is_play words.now ≡ true → IsUnfit (S.left input.old) → CanRefuse result × (folder.new ≡ folder.old) }
-    // Statuses 1, 2 and 3: no call is made of the folder.
+    // Statuses 1, 2 and 3: the folder stays as it was.
     ensures untouched { (result ≡ 1) ⊎ (result ≡ 2) ⊎ (result ≡ 3) → folder.new ≡ folder.old }
     // Statuses 3, 4 and 5: only where the count of faults of the source, the sink or the folder rose.
     ensures input { result ≡ 3 → Rose (S.count input.old) (S.count input.new) }
