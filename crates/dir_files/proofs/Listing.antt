@@ -3,7 +3,8 @@ use Rattle.std.proofs.Common.{◌≡◌, ◌≢◌, ◌⊎◌, zero, suc, Bool, 
 use Rattle.std.proofs.lemmas.Bool.{cases_Bool, false≢true}
 use Rattle.std.proofs.lemmas.List.Elements.{Contains-append_right, Contains-get_or, All-nil, All-cons}
 use Rattle.hr_base.specs.declared.name.ChunkName.{ChunkName}
-use Rattle.hr_base.specs.NameTests.{is_name, is_name-true, is_name-same}
+use Rattle.hr_base.specs.NameTests.{is_name}
+use Rattle.hr_base.proofs.NameTestLaws.{is_name-true, is_name-same}
 use Rattle.hr_base.specs.Names.{IsChunkName}
 use Rattle.dir_files.specs.declared.chain.Entry.{Entry}
 use Rattle.dir_files.specs.declared.chain.Slot.{Slot}

@@ -2,7 +2,8 @@
 use Rattle.std.proofs.Common.{◌≡◌, Bool, true, false, ◌&&◌, ◌||◌, not, List, [], Some, refl, ap, sym, ◌∙◌, subst, inl, inr}
 use Rattle.hr_base.specs.declared.name.ChunkName.{ChunkName}
 use Rattle.std.proofs.lemmas.Bool.{cases_Bool}
-use Rattle.hr_base.specs.NameTests.{is_name, is_name-true, is_name-same, is_name-other}
+use Rattle.hr_base.specs.NameTests.{is_name}
+use Rattle.hr_base.proofs.NameTestLaws.{is_name-true, is_name-same, is_name-other}
 use Rattle.dir_files.specs.declared.chain.Entry.{Entry}
 use Rattle.dir_files.specs.declared.chain.Slot.{Slot}
 use Rattle.dir_files.specs.Files.{FileState, ChangesAt, SameAt}

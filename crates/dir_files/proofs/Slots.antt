@@ -3,7 +3,8 @@ use Rattle.std.proofs.Common.{◌≡◌, Bool, true, false, cond, ◌||◌, List
 use Rattle.std.proofs.lemmas.Bool.{cases_Bool, or_from, or_parts, false≢true, false_from_ne_true}
 use Rattle.std.specs.declared.alloc.Global.{Global}
 use Rattle.hr_base.specs.declared.name.ChunkName.{ChunkName}
-use Rattle.hr_base.specs.NameTests.{is_name, is_name-true, is_name-same}
+use Rattle.hr_base.specs.NameTests.{is_name}
+use Rattle.hr_base.proofs.NameTestLaws.{is_name-true, is_name-same}
 use Rattle.dir_files.specs.declared.chain.Entry.{Entry}
 use Rattle.dir_files.specs.declared.chain.Slot.{Slot}
 use Rattle.dir_files.specs.declared.chain.Chain.{Chain}

@@ -7,7 +7,7 @@ use Rattle.hr_base.specs.declared.name.ChunkName.{ChunkName}
 use Rattle.dir_files.specs.Files.{FileState, Files, named_file}
 use Rattle.dir_files.specs.Ports.{Port, SamePort, CanJoin, Joins, SyncsNames, IsListing, either_file}
 use Rattle.dir_files.specs.Images.{Image, IsImage, MayLeave, read_of}
-use Rattle.ram_map.specs.Entries.{Entries}
+use Rattle.hr_base.specs.Entries.{Entries}
 use Rattle.script_text.specs.declared.line.Line.{Line}
 use Rattle.partition_writer.specs.Accounts.{Account, fresh_account}
 use Rattle.partition_writer.specs.Restarts.{RestartsAs, SurvivesCrash}

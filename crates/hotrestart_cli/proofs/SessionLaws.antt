@@ -4,7 +4,7 @@ use Rattle.std.proofs.Common.{sym, ◌∙◌, ap, subst, arith, append_assoc, ta
 use Rattle.std.proofs.Math.Seq.{take-append-add}
 use Rattle.std.proofs.lemmas.List.{append-nil, take_more, take_all}
 use Rattle.std.proofs.lemmas.List.Sums.{sum_by-append}
-use Rattle.ram_map.specs.Entries.{Entries}
+use Rattle.hr_base.specs.Entries.{Entries}
 use Rattle.script_text.specs.declared.line.Line.{Line}
 use Rattle.script_text.specs.Replies.{replies, text_after, maps_after_line, maps_after_lines}
 use Rattle.partition_writer.specs.Accounts.{Account}

@@ -1,6 +1,6 @@
 -- A session over a script.
 use Rattle.std.specs.Prelude.{◌≡◌, ℕ, ◌+◌, ◌≤◌, Bool, true, List, [], ◌∷◌, length, take, sum_by, Option, Some, None, slice_get}
-use Rattle.ram_map.specs.Entries.{Entries}
+use Rattle.hr_base.specs.Entries.{Entries}
 use Rattle.script_text.specs.declared.line.Line.{Line}
 use Rattle.script_text.specs.declared.line.Line.TheVariants.{Put, Get, Sync}
 use Rattle.script_text.specs.Replies.{replies, text_after, maps_after_line}

@@ -1,2 +1,4 @@
+pub mod EntryLaws
 pub mod HexDigits
+pub mod NameTestLaws
 pub mod NameTexts

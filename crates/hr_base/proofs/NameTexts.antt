@@ -3,7 +3,7 @@ use Rattle.std.proofs.Common.{◌≡◌, ℕ, ◌+◌, ◌/◌, ◌%◌, ◌≤�
 use Rattle.std.proofs.lemmas.List.{take_at, drop_at, take-append-drop, drop-drop, length-append, length-take, length-drop}
 use Rattle.hr_base.specs.declared.name.ChunkName.{ChunkName}
 use Rattle.hr_base.specs.Names.{IsChunkName, name_text, letter_of_kind, hex_digits}
-use Rattle.hr_base.specs.NameTests.{letter_of_kind-one, same_parts}
+use Rattle.hr_base.proofs.NameTestLaws.{letter_of_kind-one, same_parts}
 use Rattle.hr_base.proofs.HexDigits.{length-hex_digits, hex_digits_one}
 
 -- what the text of a name has at each place

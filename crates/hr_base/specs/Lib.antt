@@ -1,4 +1,6 @@
 pub mod Counts
+pub mod Entries
+pub mod LimitRanges
 pub mod NameTests
 pub mod Names
 pub mod Records

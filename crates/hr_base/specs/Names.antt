@@ -1,5 +1,6 @@
 -- Chunk files: their kinds, and the text of their names.
-use Rattle.std.specs.Prelude.{ℕ, ◌+◌, ◌/◌, ◌%◌, ◌^◌, ◌<◌, ◌≤◌, List, [], ◌∷◌, ◌++◌, codes, zero, suc, nat_lt, if◌then◌else◌}
+use Rattle.std.specs.Prelude.{ℕ, ◌+◌, ◌/◌, ◌%◌, ◌<◌, ◌≤◌, List, [], ◌∷◌, ◌++◌, codes, zero, suc, nat_lt, if◌then◌else◌}
+use Rattle.hr_base.specs.declared.limits.TheConstants.{MAX_PARTITIONS, CHUNK_NO_END}
 use Rattle.hr_base.specs.declared.name.Kind.{Kind}
 use Rattle.hr_base.specs.declared.name.Kind.TheVariants.{V, T, X, W, U, Y}
 use Rattle.hr_base.specs.declared.name.Class.{Class}
@@ -24,11 +25,11 @@ letter_of_kind W = 119
 letter_of_kind U = 117
 letter_of_kind Y = 121
 
--- a name that a chunk file may have: its partition is below 64, and its number is from 1 to 2 ^ 48 - 1
+-- a name that a chunk file may have: its partition is below the greatest count, and its number is from 1 on and below its end
 pub record IsChunkName (name : ChunkName) : Type 0 where
-  pub partition : name.partition.0 < 64
+  pub partition : name.partition.0 < MAX_PARTITIONS
   pub numbered : 1 ≤ name.number.0
-  pub number : name.number.0 < 2 ^ 48
+  pub number : name.number.0 < CHUNK_NO_END
 
 -- a digit from 0 to 15: 0 to 9, then the letters a to f
 abbrev pub hex_digit : ℕ → ℕ

@@ -1,5 +1,6 @@
 -- What every layer knows of records: the limits of their parts, and how long their spellings are.
-use Rattle.std.specs.Prelude.{ℕ, ◌+◌, ◌<◌, ◌≤◌, ◌^◌}
+use Rattle.std.specs.Prelude.{ℕ, ◌+◌, ◌<◌, ◌≤◌}
+use Rattle.hr_base.specs.declared.limits.TheConstants.{SEQ_END}
 use Rattle.hr_base.specs.declared.name.Class.{Class}
 use Rattle.hr_base.specs.declared.name.Class.TheVariants.{Value, Tomb, Clear}
 
@@ -16,4 +17,4 @@ record_length class key value = header_length class + key + value
 -- a sequence number that a record may have
 pub record IsSeq (seq : ℕ) : Type 0 where
   pub numbered : 1 ≤ seq
-  pub number : seq < 2 ^ 63
+  pub number : seq < SEQ_END

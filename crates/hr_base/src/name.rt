@@ -15,19 +15,19 @@ pub struct ChunkNo(pub u64);
 #[derive(Clone, Copy, Debug, PartialEq, Eq, PartialOrd, Ord, Hash)]
 pub struct Seq(pub u64);
 
-/// Who writes a chunk, and which records it holds.
+/// Who writes a chunk, and which records it holds. The order is that of the letters that stand in a name's text.
 #[derive(Clone, Copy, Debug, PartialEq, Eq, PartialOrd, Ord, Hash)]
 pub enum Kind {
-    /// The writer's values.
-    V,
     /// The writer's tombstones.
     T,
-    /// The writer's prefix tombstones.
-    X,
-    /// The collector's values.
-    W,
     /// The collector's tombstones.
     U,
+    /// The writer's values.
+    V,
+    /// The collector's values.
+    W,
+    /// The writer's prefix tombstones.
+    X,
     /// The collector's prefix tombstones.
     Y,
 }
@@ -40,7 +40,7 @@ pub enum Class {
     Clear,
 }
 
-/// What names a chunk file.
+/// What names a chunk file. Names are ordered as their texts are.
 #[derive(Clone, Copy, Debug, PartialEq, Eq, PartialOrd, Ord, Hash)]
 pub struct ChunkName {
     pub partition: Partition,

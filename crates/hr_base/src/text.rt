@@ -5,13 +5,14 @@ ghost use Rattle.hr_base.specs.declared.name.ChunkName.{ChunkName};
 ghost use Rattle.hr_base.specs.declared.name.Kind.{Kind};
 ghost use Rattle.hr_base.specs.Names.{IsChunkName, name_text, letter_of_kind, hex_digit, hex_digits};
 
+use crate::limits::{CHUNK_NO_END, MAX_PARTITIONS};
 use crate::name::{ChunkName, ChunkNo, Kind, Partition};
 
 /// The least number of a chunk.
 const FIRST: u64 = 1;
 
 /// The number from which on there are none of a chunk.
-const END: u64 = 1 << 48;
+const END: u64 = CHUNK_NO_END;
 
 /// The name that a text spells. The form is stated in `docs/FORMATS.md`.
 pub fn read_name(text: &[u8]) -> Option<ChunkName>
@@ -61,14 +62,14 @@ fn is_framed(text: &[u8]) -> bool
 
 /// The partition that two decimal digits spell.
 fn read_partition(high: u8, low: u8) -> Option<u8>
-    ensures found { IfSome result (λ n. (n < 64) × (high ≡ 48 + n / 10) × (low ≡ 48 + n % 10)) }
-    ensures none { IfNone result ((n : ℕ) → n < 64 → high ≡ 48 + n / 10 → low ≡ 48 + n % 10 → ⊥) }
+    ensures found { IfSome result (λ n. (n < MAX_PARTITIONS) × (high ≡ 48 + n / 10) × (low ≡ 48 + n % 10)) }
+    ensures none { IfNone result ((n : ℕ) → n < MAX_PARTITIONS → high ≡ 48 + n / 10 → low ≡ 48 + n % 10 → ⊥) }
 {
     if !high.is_ascii_digit() || !low.is_ascii_digit() {
         return None;
     }
     let partition = (high - b'0') * 10 + (low - b'0');
-    if partition < 64 {
+    if partition < MAX_PARTITIONS {
         Some(partition)
     } else {
         None
@@ -108,9 +109,9 @@ fn kind_of(letter: u8) -> Option<Kind>
 /// The number of a chunk that lower-case hexadecimal digits spell.
 fn read_number(digits: &[u8]) -> Option<u64>
     requires { length digits.now ≡ 16 }
-    ensures found { IfSome result (λ n. (1 ≤ n) × (n < 2 ^ 48)
+    ensures found { IfSome result (λ n. (1 ≤ n) × (n < CHUNK_NO_END)
         × (digits.now ≡ hex_digits (length digits.now) n)) }
-    ensures none { IfNone result ((n : ℕ) → 1 ≤ n → n < 2 ^ 48
+    ensures none { IfNone result ((n : ℕ) → 1 ≤ n → n < CHUNK_NO_END
         → digits.now ≡ hex_digits (length digits.now) n → ⊥) }
 {
     let number = read_hex(digits)?;

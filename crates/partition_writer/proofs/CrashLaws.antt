@@ -7,10 +7,10 @@ use Rattle.hr_base.specs.declared.name.Class.{Class}
 use Rattle.hr_base.specs.declared.name.Class.TheVariants.{Value}
 use Rattle.hr_base.specs.declared.name.ChunkName.{ChunkName}
 use Rattle.hr_base.specs.Names.{class_of_kind}
-use Rattle.hr_base.specs.NameTests.{same_name_or_not}
+use Rattle.hr_base.proofs.NameTestLaws.{same_name_or_not}
 use Rattle.dir_files.specs.Files.{FileState, Files}
 use Rattle.dir_files.specs.Images.{Image, IsImage, MayLeave, KeepsFront}
-use Rattle.ram_map.specs.Entries.{Key, Entries}
+use Rattle.hr_base.specs.Entries.{Key, Entries}
 use Rattle.record_format.specs.declared.record.Record.{Record}
 use Rattle.record_format.specs.Spelling.{spellings}
 use Rattle.record_format.specs.Splits.{Splits, IsTorn}

@@ -1,7 +1,7 @@
 -- Records with rising numbers: the last one that touches a key decides the key.
 use Rattle.std.specs.Prelude.{◌≡◌, ℕ, zero, suc, ◌+◌, ◌<◌, ◌≤◌, Bool, true, false, cond, List, [], ◌∷◌, length, take, Contains, slice_index_or, refl}
 use Rattle.std.proofs.Common.{sym, ◌∙◌, ap, subst, inl, inr, arith}
-use Rattle.ram_map.specs.Entries.{Key, State}
+use Rattle.hr_base.specs.Entries.{Key, State}
 use Rattle.record_format.specs.declared.record.Record.{Record}
 use Rattle.record_format.specs.Spelling.{seq_of}
 use Rattle.partition_writer.specs.Commands.{command_of, touches, state_of, state_after, state_after_all}

@@ -3,8 +3,8 @@ use Rattle.std.specs.Prelude.{◌≡◌, ℕ, zero, suc, [], take, refl}
 use Rattle.std.proofs.Common.{sym, ◌∙◌, ap, inl, inr, arith, true≢false}
 use Rattle.std.specs.FinMap as map
 use Rattle.dir_files.specs.Images.{Image}
-use Rattle.ram_map.specs.Entries.{Key, Entries, State}
-use Rattle.ram_map.specs.Laws.{same_entries}
+use Rattle.hr_base.specs.Entries.{Key, Entries, State}
+use Rattle.hr_base.proofs.EntryLaws.{same_entries}
 use Rattle.partition_writer.specs.Commands.{command_of, state_of, state_after_all}
 use Rattle.partition_writer.specs.Accounts.{Fits}
 use Rattle.partition_writer.specs.Restarts.{IsRestartable, IsRestartOf, RestartsTo}

@@ -8,8 +8,8 @@ use Rattle.hr_base.specs.declared.name.Class.TheVariants.{Value as Values}
 use Rattle.dir_files.specs.Files.{FileState}
 use Rattle.dir_files.specs.Ports.{Port}
 use Rattle.dir_files.specs.Images.{MayLeave, read_of, files_of}
-use Rattle.ram_map.specs.Entries.{Key, Entries, key_at, content_of}
-use Rattle.ram_map.specs.Laws.{get-empty-entries}
+use Rattle.hr_base.specs.Entries.{Key, Entries, key_at, content_of}
+use Rattle.hr_base.proofs.EntryLaws.{get-empty-entries}
 use Rattle.record_format.specs.declared.record.Record.{Record}
 use Rattle.record_format.specs.Spelling.{seq_of, spelling, spellings}
 use Rattle.record_format.specs.Splits.{IsOfClass, Splits}

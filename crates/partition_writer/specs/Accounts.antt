@@ -1,7 +1,7 @@
 -- A partition's account: what its users were told, and what of it a crash may lose.
 use Rattle.std.specs.Prelude.{◌≡◌, ℕ, ◌≤◌, List, [], ◌∷◌, ◌++◌, length, take, if◌then◌else◌}
 use Rattle.std.specs.FinMap as map
-use Rattle.ram_map.specs.Entries.{Key, Entries, State}
+use Rattle.hr_base.specs.Entries.{Key, Entries, State}
 use Rattle.partition_writer.specs.Commands.{Command, maps_after, is_written, commands_on, state_after_all}
 
 -- the maps now, those of the last answered sync, and the commands since then that change a state

@@ -2,8 +2,8 @@
 use Rattle.std.specs.Prelude.{ℕ, Bool, true, not, ◌==◌, List, [], ◌∷◌, Some, None, is_some, filter, if◌then◌else◌}
 use Rattle.std.specs.FinMap as map
 use Rattle.std.specs.List.{list_any}
-use Rattle.ram_map.specs.Entries.{Key, Entries, State, key_at, content_of}
-use Rattle.ram_map.specs.Laws.{is_key}
+use Rattle.hr_base.specs.Entries.{Key, Entries, State, key_at, content_of}
+use Rattle.hr_base.specs.Entries.{is_key}
 use Rattle.record_format.specs.declared.record.Record.{Record}
 use Rattle.record_format.specs.declared.record.Record.TheVariants.{Value, Tomb, Clear as ClearRecord}
 

@@ -5,7 +5,7 @@ use Rattle.hr_base.specs.declared.name.Class.TheVariants.{Value}
 use Rattle.hr_base.specs.declared.name.ChunkName.{ChunkName}
 use Rattle.hr_base.specs.Names.{class_of_kind}
 use Rattle.dir_files.specs.Files.{Files}
-use Rattle.ram_map.specs.Entries.{Key, Entries}
+use Rattle.hr_base.specs.Entries.{Key, Entries}
 use Rattle.record_format.specs.declared.record.Record.{Record}
 use Rattle.record_format.specs.Spelling.{spellings}
 use Rattle.record_format.specs.Splits.{IsOfClass}

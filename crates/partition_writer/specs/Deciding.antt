@@ -1,6 +1,6 @@
 -- Records with rising numbers: the last one that touches a key decides the key.
 use Rattle.std.specs.Prelude.{◌≡◌, ◌⊎◌, ◌≤◌, true, false, List, [], ◌∷◌, map}
-use Rattle.ram_map.specs.Entries.{Key, State}
+use Rattle.hr_base.specs.Entries.{Key, State}
 use Rattle.record_format.specs.declared.record.Record.{Record}
 use Rattle.record_format.specs.Spelling.{seq_of}
 use Rattle.partition_writer.specs.Commands.{Command, command_of, touches, state_of, state_after_all}

@@ -5,7 +5,7 @@ use Rattle.hr_base.specs.declared.name.ChunkName.{ChunkName}
 use Rattle.hr_base.specs.Names.{class_of_kind}
 use Rattle.dir_files.specs.Files.{Files}
 use Rattle.dir_files.specs.Images.{Image, IsImage}
-use Rattle.ram_map.specs.Entries.{Key, Entries, State}
+use Rattle.hr_base.specs.Entries.{Key, Entries, State}
 use Rattle.record_format.specs.declared.record.Record.{Record}
 use Rattle.record_format.specs.Spelling.{seq_of}
 use Rattle.record_format.specs.Splits.{Splits, IsTorn}

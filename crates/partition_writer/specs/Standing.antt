@@ -6,7 +6,7 @@ use Rattle.hr_base.specs.declared.name.ChunkName.{ChunkName}
 use Rattle.hr_base.specs.Names.{class_of_kind}
 use Rattle.dir_files.specs.Files.{FileState}
 use Rattle.dir_files.specs.Ports.{Port}
-use Rattle.ram_map.specs.Entries.{Key, Entries, key_at, content_of}
+use Rattle.hr_base.specs.Entries.{Key, Entries, key_at, content_of}
 use Rattle.record_format.specs.declared.record.Record.{Record}
 use Rattle.record_format.specs.Spelling.{seq_of, spellings}
 use Rattle.record_format.specs.Splits.{IsOfClass, Splits}

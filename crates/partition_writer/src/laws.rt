@@ -2,12 +2,12 @@
 
 ghost use Rattle.std.specs.Prelude.{◌≡◌, ◌<◌, ℕ, List, []};
 ghost use Rattle.std.specs.FinMap.{get};
-ghost use Rattle.ram_map.specs.Entries.{Key, State};
+ghost use Rattle.hr_base.specs.Entries.{Key, State};
 ghost use Rattle.partition_writer.specs.Commands.{Command, state_after_all, commands_on, maps_after_all};
 ghost use Rattle.dir_files.specs.Files.{Files};
 ghost use Rattle.dir_files.specs.Images.{Image};
 ghost use Rattle.hr_base.specs.declared.name.ChunkName.{ChunkName};
-ghost use Rattle.ram_map.specs.Entries.{Entries};
+ghost use Rattle.hr_base.specs.Entries.{Entries};
 ghost use Rattle.partition_writer.specs.Accounts.{Fits};
 ghost use Rattle.partition_writer.specs.Chunks.{Rising, HasRecords};
 ghost use Rattle.partition_writer.specs.Restarts.{IsRestartable, IsRestartOf, SurvivesCrash};

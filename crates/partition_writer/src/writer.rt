@@ -59,7 +59,7 @@ impl<F: Folder> Writer<F> {
     ghost use Rattle.hr_base.specs.Counts.{Rose};
     ghost use Rattle.dir_files.specs.Ports.{IsEmptyPort};
     ghost use Rattle.dir_files.specs.Images.{read_of};
-    ghost use Rattle.ram_map.specs.Entries.{Entries, key_at, content_of};
+    ghost use Rattle.hr_base.specs.Entries.{Entries, key_at, content_of};
     ghost use Rattle.record_format.specs.Spelling.{seq_of, spelling};
     ghost use Rattle.record_format.specs.Splits.{IsOfClass};
     ghost use Rattle.partition_writer.specs.Commands.{Put};

@@ -14,8 +14,9 @@ use Rattle.std.proofs.lemmas.Map.Keys.{IsDistinct-tail}
 use Rattle.std.proofs.lemmas.Map.Entries.{none_past_head}
 use Rattle.std.proofs.lemmas.Bool.Decides.{Decides-eqb}
 use Rattle.indexmap.specs.IndexMap.{insert_entry}
-use Rattle.ram_map.specs.Entries.{Key, Content, key_cmp, key_at, content_of}
-use Rattle.ram_map.specs.Laws.{key_total, is_key, same_entries}
+use Rattle.hr_base.specs.Entries.{Key, Content, key_cmp, key_at, content_of}
+use Rattle.hr_base.specs.Entries.{is_key}
+use Rattle.hr_base.proofs.EntryLaws.{key_total, same_entries}
 use Rattle.ram_map.specs.Nested.{has_bytes, entries_under, flat_entries, all_entries, nested_get}
 
 -- two keys tie where the prefixes and the bytes do

@@ -1,3 +1,2 @@
-pub mod Entries
-pub mod Laws
+pub mod Maps
 pub mod Nested

@@ -4,7 +4,7 @@ use Rattle.std.specs.Cmp.Lexicographic.{pointwise}
 use Rattle.std.specs.FinMap.{from_entries}
 use Rattle.std.specs.Map.{lookup}
 use Rattle.std.specs.HashMap.{HashMap, get, spare}
-use Rattle.ram_map.specs.Entries.{Key, Content, Entries, key_at, content_of}
+use Rattle.hr_base.specs.Entries.{Key, Content, Entries, key_at, content_of}
 
 module _ {K : Type 0} (bytes : K → List ℕ) where
   -- whether a key has these bytes

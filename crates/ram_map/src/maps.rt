@@ -3,7 +3,7 @@
 ghost use Rattle.std.specs.Prelude.{◌≡◌, ◌⊎◌, IsSome, IfOk, OnOk, OnErr, None, Some};
 ghost use Rattle.std.specs.FinMap.{empty, get, insert, remove};
 ghost use Rattle.std.specs.Option.{option_map};
-ghost use Rattle.ram_map.specs.Entries.{key_at, content_of};
+ghost use Rattle.hr_base.specs.Entries.{key_at, content_of};
 
 use crate::nested::{Nested, find, make_room, put, take};
 use bytes::Bytes;
@@ -26,7 +26,7 @@ impl Model for RamMap {
     ghost use Rattle.std.specs.Vec.{vec_items};
     ghost use Rattle.std.specs.Option.{ForSome};
     ghost use Rattle.indexmap.specs.IndexMap.{IsUnique};
-    ghost use Rattle.ram_map.specs.Entries.{Maps, coded_maps};
+    ghost use Rattle.ram_map.specs.Maps.{Maps, coded_maps};
     ghost use Rattle.ram_map.specs.Nested.{all_entries, HasRoom};
 
     ghost Value = { Maps };

@@ -5,7 +5,7 @@ ghost use Rattle.std.specs.FinMap.{insert, remove};
 ghost use Rattle.std.specs.Option.{option_copied};
 ghost use Rattle.std.specs.Vec.{vec_items};
 ghost use Rattle.indexmap.specs.IndexMap.{IsUnique};
-ghost use Rattle.ram_map.specs.Entries.{key_at, content_of};
+ghost use Rattle.hr_base.specs.Entries.{key_at, content_of};
 ghost use Rattle.ram_map.specs.Nested.{all_entries, nested_get, HasRoom};
 
 use bytes::Bytes;

@@ -1,7 +1,7 @@
 -- What is replied to each line, and the maps after it.
 use Rattle.std.specs.Prelude.{ℕ, List, [], ◌∷◌, ◌++◌, Some, None, codes, decimal}
 use Rattle.std.specs.FinMap as map
-use Rattle.ram_map.specs.Entries.{Entries, State, key_at, content_of}
+use Rattle.hr_base.specs.Entries.{Entries, State, key_at, content_of}
 use Rattle.script_text.specs.declared.line.Line.{Line}
 use Rattle.script_text.specs.declared.line.Line.TheVariants.{Put, Get, Sync}
 use Rattle.script_text.specs.declared.reply.Reply.{Reply}

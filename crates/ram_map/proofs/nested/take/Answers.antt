@@ -1,8 +1,8 @@
 use Rattle.std.proofs.Common.{IsSome, option_map, option_and_then, refl, sym, ap, subst, ◌∙◌}
 use Rattle.std.specs.Map.{lookup}
 use Rattle.std.specs.Vec.{vec_items}
-use Rattle.ram_map.specs.Entries.{key_at, content_of}
-use Rattle.ram_map.specs.Laws.{remove-absent}
+use Rattle.hr_base.specs.Entries.{key_at, content_of}
+use Rattle.hr_base.proofs.EntryLaws.{remove-absent}
 use Rattle.ram_map.specs.Nested.{has_bytes, all_entries}
 use Rattle.ram_map.proofs.NestedLemmas.{get-all_entries, all_entries-taken}
 use Rattle.ram_map.proofs.nested.take.Goals as goal

@@ -1,7 +1,7 @@
 use Rattle.std.proofs.Common.{IsSome, inl, inr, ⊎_elim, option_map, sym, ap, subst, ◌∙◌}
 use Rattle.std.specs.FinMap.{get}
 use Rattle.std.specs.Vec.{vec_items}
-use Rattle.ram_map.specs.Entries.{key_at, content_of}
+use Rattle.hr_base.specs.Entries.{key_at, content_of}
 use Rattle.ram_map.proofs.NestedLemmas.{get-all_entries, IsSome-option_map}
 use Rattle.ram_map.proofs.maps.RamMap.set.Goals as goal
 

@@ -1,7 +1,7 @@
 use Rattle.std.proofs.Common.{option_map, sym, ap, ◌∙◌}
 use Rattle.std.specs.FinMap.{get}
 use Rattle.std.specs.Vec.{vec_items}
-use Rattle.ram_map.specs.Entries.{key_at, content_of}
+use Rattle.hr_base.specs.Entries.{key_at, content_of}
 use Rattle.ram_map.proofs.NestedLemmas.{get-all_entries}
 use Rattle.ram_map.proofs.maps.RamMap.take.Goals as goal
 

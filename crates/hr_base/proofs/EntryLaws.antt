@@ -2,14 +2,14 @@
 use Rattle.std.specs.Prelude.{◌≡◌, ◌≢◌, ◌⊎◌, ℕ, List, Bool, true, false, cond, Some, None, refl}
 use Rattle.std.proofs.Common.{sym, ◌∙◌, ap, inl, inr, true≢false}
 use Rattle.std.specs.FinMap.{IsAntisymmetric, empty, get, insert, remove, get-empty, get-insert, get-remove, same_map}
-use Rattle.std.specs.Ordering.{nat_cmp, eq_by_cmp, is_eq}
+use Rattle.std.specs.Ordering.{nat_cmp, is_eq}
 use Rattle.std.specs.declared.cmp.Ordering.{Ordering}
 use Rattle.std.specs.declared.cmp.Ordering.TheVariants.{Less, Equal, Greater}
 use Rattle.std.specs.Cmp.{IsTotalOrder, eq_by_cmp_equiv}
 use Rattle.std.specs.Cmp.Lexicographic.{slice_cmp}
 use Rattle.std.proofs.lemmas.Cmp.{nat_cmp_total, nat_list_cmp_total, on_total, then_total}
 use Rattle.std.proofs.lemmas.Map.Lookups.{exact_bytes, exact_pairs, exact_unsigned}
-use Rattle.ram_map.specs.Entries.{Key, Content, Entries, key_cmp}
+use Rattle.hr_base.specs.Entries.{Key, Content, Entries, key_cmp, is_key}
 
 pub key_total : IsTotalOrder key_cmp
 key_total = then_total (on_total (λ k. k.prefix) nat_cmp_total) (on_total (λ k. k.bytes) nat_list_cmp_total)
@@ -17,10 +17,6 @@ key_total = then_total (on_total (λ k. k.prefix) nat_cmp_total) (on_total (λ k
 -- keys that compare alike are one
 pub key_exact : IsAntisymmetric key_cmp
 key_exact a b e = ap (λ (p : ℕ × List ℕ). record { prefix = p.0; bytes = p.1 }) (exact_pairs nat_cmp (slice_cmp nat_cmp) exact_unsigned exact_bytes (a.prefix, a.bytes) (b.prefix, b.bytes) e)
-
--- whether two keys are one
-abbrev pub is_key : Key → Key → Bool
-is_key a b = eq_by_cmp key_cmp a b
 
 equal_from_test : (o : Ordering) → is_eq o ≡ true → o ≡ Equal
 equal_from_test Less h = absurd (true≢false (sym h))
