@@ -4,7 +4,7 @@ use Rattle.std.proofs.Common.{sym, ◌∙◌, ap, arith, take-append-drop, lengt
 use Rattle.std.proofs.lemmas.List.{take_at}
 use Rattle.std.proofs.lemmas.List.Elements.{filter-append}
 use Rattle.std.specs.FinMap as map
-use Rattle.hr_base.specs.Entries.{Key, Entries, State, key_at, content_of, without_prefix}
+use Rattle.hr_base.specs.Entries.{Key, Entries, State, key_at, content_of}
 use Rattle.hr_base.proofs.EntryLaws.{key_total, key_exact}
 use Rattle.crash_law.specs.Commands.{Command, Put, Remove, Clear, touches, state_of, state_after, state_after_all, commands_on, maps_after, maps_after_all}
 

@@ -1,1 +1,6 @@
 pub mod CommandLaws
+pub mod NumberedLaws
+pub mod RestartLaws
+pub mod KeptLaws
+pub mod ChunkLaws
+pub mod ImageLaws

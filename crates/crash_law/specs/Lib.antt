@@ -1,1 +1,6 @@
 pub mod Commands
+pub mod Accounts
+pub mod Numbered
+pub mod Restarts
+pub mod Chunks
+pub mod Crashes

@@ -1,7 +1,13 @@
-//! Commands, accounts, and what a restart makes of what a crash leaves. There is no code here: each law is the
-//! contract of a function that does nothing.
+//! Commands and accounts, what a restart makes of facts, and what every crash leaves of an account. There is no code
+//! here: each law is the contract of a function that does nothing.
 #![tactic(auto)]
 
 mod command_laws;
+mod crash_laws;
 
-pub use command_laws::maps_after_commands;
+pub use command_laws::{
+    empty_tail_fits_itself, last_decides, maps_after_commands, state_of_own_commands,
+};
+pub use crash_laws::{
+    a_chunk_leaves_a_front, an_image_restarts_as_itself, one_restart, what_is_kept_fits,
+};
