@@ -1,14 +1,16 @@
 -- Names in the order of their texts.
-use Rattle.std.proofs.Common.{◌≡◌, ℕ, ◌+◌, ◌/◌, ◌%◌, ◌^◌, ◌<◌, List, ◌++◌, length, codes, All, get_or, true, false, Some, refl, sym, ap, ◌∙◌, lit<, arith}
+use Rattle.std.proofs.Common.{◌≡◌, ℕ, ◌+◌, ◌/◌, ◌%◌, ◌^◌, ◌<◌, ◌≤◌, List, ◌++◌, length, codes, All, get_or, true, false, Some, refl, sym, ap, ◌∙◌, lit<, arith}
 use Rattle.std.specs.declared.cmp.Ordering.{Ordering}
 use Rattle.std.specs.declared.cmp.Ordering.TheVariants.{Less, Equal, Greater}
 use Rattle.std.specs.Ordering.{nat_cmp, ordering_then, ordering_reverse, is_lt, is_gt, is_some_and}
 use Rattle.std.specs.Cmp.Lexicographic.{slice_cmp, slice_partial_cmp, lists_agrees}
 use Rattle.std.specs.List.Sorted.{IsSorted}
 use Rattle.std.proofs.lemmas.List.Elements.{All-get_or}
+use Rattle.std.proofs.lemmas.List.Sorted.{ranks_by, sorted_far}
 use Rattle.std.proofs.lemmas.Cmp.{upto, tied_itself, nat_list_cmp_total}
 use Rattle.hr_base.specs.contracts.name.KindOrd.TheImpl as kind_ord
 use Rattle.hr_base.specs.contracts.name.ChunkNameOrd.TheImpl as name_ord
+use Rattle.hr_base.specs.contracts.name.ChunkNameOrd.TheImpl.Laws.{total-law}
 use Rattle.hr_base.specs.declared.name.Kind.{Kind}
 use Rattle.hr_base.specs.declared.name.Kind.TheVariants.{T, U, V, W, X, Y}
 use Rattle.hr_base.specs.declared.name.ChunkName.{ChunkName}
@@ -65,14 +67,15 @@ not_after_turned Less e = cc
 not_after_turned Equal e = refl
 not_after_turned Greater e = refl
 
--- sorted names stand in the order of their texts
-pub sorted_up_to : (names : List ChunkName) → All IsChunkName names → IsSorted name_ord.ghosts.cmp names → (k : ℕ) (d : ChunkName) → k + 1 < length names → IsUpTo (get_or names k d) (get_or names (k + 1) d)
-sorted_up_to names valid sorted k d h =
-    let a = get_or names k d in
-    let b = get_or names (k + 1) d in
-    let p : IsChunkName a = All-get_or IsChunkName names k d (omega arith) valid in
-    let q : IsChunkName b = All-get_or IsChunkName names (k + 1) d h valid in
-    let texts = sym (ap is_lt (name_cmp b a q p)) ∙ sorted k d (omega arith) h in
+-- of sorted names an earlier one comes up to a later one
+pub sorted_up_to : (names : List ChunkName) → All IsChunkName names → IsSorted name_ord.ghosts.cmp names → (i j : ℕ) (d : ChunkName) → i ≤ j → j < length names → IsUpTo (get_or names i d) (get_or names j d)
+sorted_up_to names valid sorted i j d h k =
+    let a = get_or names i d in
+    let b = get_or names j d in
+    let p : IsChunkName a = All-get_or IsChunkName names i d (omega arith) valid in
+    let q : IsChunkName b = All-get_or IsChunkName names j d k valid in
+    let ranked = ranks_by total-law (λ (name : ChunkName). name) in
+    let texts = sym (ap is_lt (name_cmp b a q p)) ∙ sorted_far (λ x y. is_lt (name_ord.ghosts.cmp x y)) ranked names sorted i j d h k in
     ap is_gt (nat_list_cmp_total.antisymm (name_text a) (name_text b)) ∙ not_after_turned (slice_cmp nat_cmp (name_text b) (name_text a)) texts
 
 pub up_to-itself : (a : ChunkName) → IsUpTo a a
