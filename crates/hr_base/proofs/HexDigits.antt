@@ -1,11 +1,15 @@
 -- What hexadecimal digits say of their number.
 use Rattle.std.proofs.Common.{◌≡◌, ℕ, zero, suc, ◌+◌, ◌*◌, ◌/◌, ◌%◌, ◌^◌, ◌<◌, ◌≤◌, List, [], ◌∷◌, ◌++◌, length, get_or, drop, set, lit<, lit≤, refl, sym, ap, ◌∙◌, inl, inr, arith, add-one}
+use Rattle.std.specs.Ordering.{nat_cmp, ordering_then}
+use Rattle.std.specs.Cmp.Lexicographic.{slice_cmp}
+use Rattle.std.specs.declared.cmp.Ordering.TheVariants.{Equal}
 use Rattle.std.proofs.Math.Nat.{pow-suc, pow-le-pow_right}
 use Rattle.std.proofs.lemmas.List.{length_push, same_from_push, get_or_append_left, get_or_push, drop-set, append_assoc}
 use Rattle.std.proofs.lemmas.Nat.{div-mul-add, mod-mul-add, div_below, mod_below}
 use Rattle.std.proofs.lemmas.Bool.{cases_lt}
 use Rattle.std.proofs.lemmas.Bool.Decides.{nat_tests}
 use Rattle.hr_base.specs.Names.{hex_digit, hex_digits}
+use Rattle.hr_base.proofs.Orders.{ordering_then-equal, slice_cmp-append, nat_cmp-equal, div_mod_cmp}
 
 -- two values below 16 with one digit are the same
 pub hex_digit_one : (a b : ℕ) → a < 16 → b < 16 → hex_digit a ≡ hex_digit b → a ≡ b
@@ -68,3 +72,21 @@ hex_digits_write text place n whole h e =
     ∙ sym (append_assoc (hex_digits place (n / 16)) (hex_digit (n % 16) ∷ []) (drop (place + 1) text))
     ∙ ap (λ x. x ++ drop (place + 1) text) (sym (hex_digits_last place n))
     ∙ e
+
+-- two digits from 0 to 15 compare as their values
+pub hex_digit_cmp : (a b : ℕ) → a < 16 → b < 16 → nat_cmp (hex_digit a) (hex_digit b) ≡ nat_cmp a b
+hex_digit_cmp a b p q = grind (arith, nat_tests)
+
+-- digits compare as the number
+pub hex_digits_cmp : (count a b : ℕ) → a < 16 ^ count → b < 16 ^ count → slice_cmp nat_cmp (hex_digits count a) (hex_digits count b) ≡ nat_cmp a b
+hex_digits_cmp zero a b p q = sym (nat_cmp-equal a b (omega arith))
+hex_digits_cmp (suc count) a b p q =
+    let p' : a < 16 ^ count * 16 = rw pow-suc at p in
+    let q' : b < 16 ^ count * 16 = rw pow-suc at q in
+    let long : length (hex_digits count (a / 16)) ≡ length (hex_digits count (b / 16)) = length-hex_digits count (a / 16) ∙ sym (length-hex_digits count (b / 16)) in
+    let high = hex_digits_cmp count (a / 16) (b / 16) (div_below a 16 (16 ^ count) (lit< tt) p') (div_below b 16 (16 ^ count) (lit< tt) q') in
+    let low = ordering_then-equal (nat_cmp (hex_digit (a % 16)) (hex_digit (b % 16))) ∙ hex_digit_cmp (a % 16) (b % 16) (mod_below a 16 (lit< tt)) (mod_below b 16 (lit< tt)) in
+    slice_cmp-append nat_cmp (hex_digits count (a / 16)) (hex_digit (a % 16) ∷ []) (hex_digits count (b / 16)) (hex_digit (b % 16) ∷ []) long
+    ∙ ap (λ o. ordering_then o (ordering_then (nat_cmp (hex_digit (a % 16)) (hex_digit (b % 16))) Equal)) high
+    ∙ ap (ordering_then (nat_cmp (a / 16) (b / 16))) low
+    ∙ div_mod_cmp a b 16 (lit< tt)

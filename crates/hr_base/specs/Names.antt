@@ -1,5 +1,7 @@
 -- Chunk files: their kinds, and the text of their names.
-use Rattle.std.specs.Prelude.{ℕ, ◌+◌, ◌/◌, ◌%◌, ◌<◌, ◌≤◌, List, [], ◌∷◌, ◌++◌, codes, zero, suc, nat_lt, if◌then◌else◌}
+use Rattle.std.specs.Prelude.{◌≡◌, ℕ, false, ◌+◌, ◌/◌, ◌%◌, ◌<◌, ◌≤◌, List, [], ◌∷◌, ◌++◌, codes, zero, suc, nat_lt, if◌then◌else◌}
+use Rattle.std.specs.Ordering.{nat_cmp, is_gt}
+use Rattle.std.specs.Cmp.Lexicographic.{slice_cmp}
 use Rattle.hr_base.specs.declared.limits.TheConstants.{MAX_PARTITIONS, CHUNK_NO_END}
 use Rattle.hr_base.specs.declared.name.Kind.{Kind}
 use Rattle.hr_base.specs.declared.name.Kind.TheVariants.{V, T, X, W, U, Y}
@@ -44,3 +46,7 @@ hex_digits (suc count) n = hex_digits count (n / 16) ++ hex_digit (n % 16) ∷ [
 unfoldable pub name_text : ChunkName → List ℕ
 name_text name =
     112 ∷ (48 + name.partition.0 / 10) ∷ (48 + name.partition.0 % 10) ∷ 45 ∷ letter_of_kind name.kind ∷ 45 ∷ (hex_digits 16 name.number.0 ++ codes ".chunk")
+
+-- the text of the first does not come after that of the second; the first byte that differs decides
+abbrev pub IsUpTo : ChunkName → ChunkName → Type 0
+IsUpTo a b = is_gt (slice_cmp nat_cmp (name_text a) (name_text b)) ≡ false
