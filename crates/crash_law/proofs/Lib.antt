@@ -4,3 +4,5 @@ pub mod RestartLaws
 pub mod KeptLaws
 pub mod ChunkLaws
 pub mod ImageLaws
+pub mod PlacedLaws
+pub mod FileLaws

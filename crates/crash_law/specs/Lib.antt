@@ -4,3 +4,4 @@ pub mod Numbered
 pub mod Restarts
 pub mod Chunks
 pub mod Crashes
+pub mod Placed

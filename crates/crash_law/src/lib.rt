@@ -4,6 +4,7 @@
 
 mod command_laws;
 mod crash_laws;
+mod file_laws;
 
 pub use command_laws::{
     empty_tail_fits_itself, last_decides, maps_after_commands, state_of_own_commands,
@@ -11,3 +12,4 @@ pub use command_laws::{
 pub use crash_laws::{
     a_chunk_leaves_a_front, an_image_restarts_as_itself, one_restart, what_is_kept_fits,
 };
+pub use file_laws::{held_records_recover, whole_records_restart};
