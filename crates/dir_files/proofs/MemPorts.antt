@@ -1,15 +1,14 @@
 -- What the calls on slots make of the port that they are seen as.
-use Rattle.std.proofs.Common.{◌≡◌, Bool, true, false, ◌&&◌, ◌||◌, not, List, [], Option, Some, None, is_some, if◌then◌else◌, refl, ap, sym, ◌∙◌, subst, inl, inr}
+use Rattle.std.proofs.Common.{◌≡◌, Bool, true, false, ◌&&◌, ◌||◌, not, List, [], Some, None, refl, ap, sym, ◌∙◌, subst, inl, inr}
 use Rattle.hr_base.specs.declared.name.ChunkName.{ChunkName}
-use Rattle.std.proofs.lemmas.Bool.{cases_Bool, false≢true}
+use Rattle.std.proofs.lemmas.Bool.{cases_Bool}
 use Rattle.hr_base.specs.NameTests.{is_name}
 use Rattle.hr_base.proofs.NameTestLaws.{is_name-true, is_name-same, is_name-other}
 use Rattle.dir_files.specs.declared.chain.Entry.{Entry}
 use Rattle.dir_files.specs.declared.chain.Slot.{Slot}
 use Rattle.dir_files.specs.Files.{FileState, ChangesAt, SameAt}
-use Rattle.dir_files.specs.Ports.{IsEmptyPort, IsFreeName, either_file, CanJoin, Joins, Creates, Gives, SyncsNames}
+use Rattle.dir_files.specs.Ports.{IsEmptyPort, IsFreeName, Creates, Gives, SyncsNames}
 use Rattle.dir_files.specs.Memory.{joined, created_entry, returned_entry, synced_entry, entry_at, merged, synced_slots, port_of}
-use Rattle.dir_files.proofs.Entries.{either_file-none}
 use Rattle.dir_files.proofs.Slots.{entry_at-merged, entry_at-merged_other, entry_at-synced}
 
 empty_port : IsEmptyPort (port_of [])
@@ -107,20 +106,3 @@ SyncsNames-synced old new syncs =
       created = λ name. ap (λ (x : Entry). x.created) (entry name);
       fixed = λ name. ap (λ (x : Entry). x.fixed) (entry name);
     }
-
--- two ports are one: where one holds a file, the other has no removed one of its name
-either_removed-apart : (held_a gone_a held_b gone_b : Option FileState) → ((is_some held_a || is_some gone_a) ≡ true → (is_some held_b || is_some gone_b) ≡ false) → (if is_some held_a then gone_a else either_file gone_a gone_b) ≡ either_file gone_a gone_b
-either_removed-apart None gone_a held_b gone_b apart = refl
-either_removed-apart (Some file) gone_a (Some other) gone_b apart = absurd (false≢true (sym (apart refl)))
-either_removed-apart (Some file) gone_a None (Some gone) apart = absurd (false≢true (sym (apart refl)))
-either_removed-apart (Some file) gone_a None None apart = sym (either_file-none gone_a)
-
-pub Joins-absorbed : (here there new : List Slot) → ((name : ChunkName) → entry_at new name ≡ joined (entry_at here name) (entry_at there name)) → CanJoin (port_of here) (port_of there) → Joins (port_of here) (port_of there) (port_of new)
-Joins-absorbed here there new absorbed can = record {
-  held = λ name. ap (λ (x : Entry). x.held) (absorbed name);
-  gone = λ name. ap (λ (x : Entry). x.gone) (absorbed name) ∙ either_removed-apart (entry_at here name).held (entry_at here name).gone (entry_at there name).held (entry_at there name).gone (can.apart name);
-  lent = λ name. ap (λ (x : Entry). x.lent) (absorbed name);
-  foreign = λ name. ap (λ (x : Entry). x.foreign) (absorbed name);
-  created = λ name. ap (λ (x : Entry). x.created) (absorbed name);
-  fixed = λ name. ap (λ (x : Entry). x.fixed) (absorbed name);
-}

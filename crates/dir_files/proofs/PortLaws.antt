@@ -1,11 +1,11 @@
 -- What holds of every port stays so in each call.
-use Rattle.std.proofs.Common.{◌≡◌, ◌≢◌, ◌⊎◌, ◌≤◌, Bool, true, false, ◌&&◌, ◌||◌, not, length, Option, Some, None, is_some, option_map, refl, sym, ap, ◌∙◌, subst, inl, inr}
+use Rattle.std.proofs.Common.{◌≡◌, ◌≢◌, ◌⊎◌, Bool, true, false, ◌&&◌, ◌||◌, not, Option, Some, None, is_some, option_map, refl, sym, ap, ◌∙◌, subst, inl, inr}
 use Rattle.std.proofs.lemmas.Bool.{cases_Bool, false≢true}
 use Rattle.hr_base.specs.declared.name.ChunkName.{ChunkName}
 use Rattle.hr_base.specs.NameTests.{is_name}
 use Rattle.hr_base.proofs.NameTestLaws.{is_name-true, is_name-same}
-use Rattle.dir_files.specs.Files.{FileState, named_file, IsFile, ChangesAt, SameAt}
-use Rattle.dir_files.specs.Ports.{Port, IsPort, IsEmptyPort, IsFreeName, is_present, is_free, either_file, CanJoin, Joins, Creates, SyncsNames, Gives}
+use Rattle.dir_files.specs.Files.{FileState, named_file, IsFile, ChangesAt}
+use Rattle.dir_files.specs.Ports.{Port, IsPort, IsEmptyPort, IsFreeName, is_free, Creates, SyncsNames, Gives}
 
 -- one name of a look-up that changes at one name
 at_or_else : {A : Type 0} (old new : ChunkName → A) (name : ChunkName) (value : A) → ChangesAt old new name value → (n : ChunkName) → (new n ≡ value) ⊎ (new n ≡ old n)
@@ -90,38 +90,6 @@ module _ (old new : Port) (was : IsPort old) where
       apart = given_apart;
       fixed_lent = given_fixed;
     }
-
-either_fits : (a b : Option FileState) (file : FileState) → ((f : FileState) → a ≡ Some f → IsFile f) → ((f : FileState) → b ≡ Some f → IsFile f) → either_file a b ≡ Some file → IsFile file
-either_fits None b file fits fits_b is = fits_b file is
-either_fits (Some f) b file fits fits_b is = fits file is
-
--- where the ports share no file, a name that either holds may come back from neither
-either_apart : (held_a gone_a held_b gone_b : Option FileState) → (is_some held_a ≡ true → gone_a ≡ None) → (is_some held_b ≡ true → gone_b ≡ None) → ((is_some held_a || is_some gone_a) ≡ true → (is_some held_b || is_some gone_b) ≡ false) → is_some (either_file held_a held_b) ≡ true → either_file gone_a gone_b ≡ None
-either_apart (Some file) (Some gone) held_b gone_b a b apart held = absurd (let e : Some gone ≡ None = a refl in cc)
-either_apart (Some file) None (Some other) gone_b a b apart held = absurd (false≢true (sym (apart refl)))
-either_apart (Some file) None None (Some gone) a b apart held = absurd (false≢true (sym (apart refl)))
-either_apart (Some file) None None None a b apart held = refl
-either_apart None (Some gone) (Some other) gone_b a b apart held = absurd (false≢true (sym (apart refl)))
-either_apart None (Some gone) None gone_b a b apart held = absurd (false≢true held)
-either_apart None None (Some other) gone_b a b apart held = b refl
-either_apart None None None gone_b a b apart held = absurd (false≢true held)
-
-and_along : (a b x : Bool) → (a ≡ true → b ≡ true) → (a && x) ≡ true → (b && x) ≡ true
-and_along true b x along is = ap (λ (y : Bool). y && x) (along refl) ∙ is
-and_along false b x along is = absurd (false≢true is)
-
-or_along : (a b c d : Bool) → (a ≡ true → b ≡ true) → (c ≡ true → d ≡ true) → (a || c) ≡ true → (b || d) ≡ true
-or_along true b c d first second is = ap (λ (y : Bool). y || d) (first refl)
-or_along false true c d first second is = refl
-or_along false false c d first second is = second is
-
-pub IsPort-joins : (a b new : Port) → IsPort a → IsPort b → CanJoin a b → Joins a b new → IsPort new
-IsPort-joins a b new is_a is_b can joins = record {
-  held_fits = λ n file held. either_fits (a.held n) (b.held n) file (is_a.held_fits n) (is_b.held_fits n) (sym (joins.held n) ∙ held);
-  gone_fits = λ n file gone. either_fits (a.gone n) (b.gone n) file (is_a.gone_fits n) (is_b.gone_fits n) (sym (joins.gone n) ∙ gone);
-  apart = λ n held. joins.gone n ∙ either_apart (a.held n) (a.gone n) (b.held n) (b.gone n) (is_a.apart n) (is_b.apart n) (can.apart n) (ap is_some (sym (joins.held n)) ∙ held);
-  fixed_lent = λ n fixed. joins.lent n ∙ or_along (a.fixed n && not (b.foreign n)) (a.lent n && not (b.foreign n)) (b.fixed n && not (a.foreign n)) (b.lent n && not (a.foreign n)) (and_along (a.fixed n) (a.lent n) (not (b.foreign n)) (is_a.fixed_lent n)) (and_along (b.fixed n) (b.lent n) (not (a.foreign n)) (is_b.fixed_lent n)) (sym (joins.fixed n) ∙ fixed);
-}
 
 -- where the test holds, the name is free
 free_parts : (held gone : Option FileState) (lent foreign : Bool) → (not (is_some held || is_some gone) && (not lent && not foreign)) ≡ true → (held ≡ None) × (gone ≡ None) × (lent ≡ false) × (foreign ≡ false)

@@ -1,4 +1,4 @@
-use Rattle.std.proofs.Common.{◌≡◌, List, refl, ap, ◌∙◌}
+use Rattle.std.proofs.Common.{List, refl, ap, ◌∙◌}
 use Rattle.dir_files.specs.declared.chain.Slot.{Slot}
 use Rattle.dir_files.specs.Ports.{Creates}
 use Rattle.dir_files.specs.Memory.{port_of, merged}
