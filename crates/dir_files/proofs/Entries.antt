@@ -1,5 +1,5 @@
 -- What joining and syncing make of one entry.
-use Rattle.std.proofs.Common.{◌≡◌, Bool, true, false, ◌&&◌, ◌||◌, not, Option, Some, None, refl, ap, ◌∙◌}
+use Rattle.std.proofs.Common.{◌≡◌, Bool, true, false, ◌&&◌, ◌||◌, not, Option, Some, None, is_some, if◌then◌else◌, refl, ap, ◌∙◌}
 use Rattle.dir_files.specs.declared.chain.Entry.{Entry}
 use Rattle.dir_files.specs.Files.{FileState}
 use Rattle.dir_files.specs.Ports.{either_file}
@@ -9,6 +9,10 @@ use Rattle.dir_files.specs.Memory.{blank, joined}
 pub either_file-none : (file : Option FileState) → either_file file None ≡ file
 either_file-none None = refl
 either_file-none (Some file) = refl
+
+pub either_removed-none : (held removed : Option FileState) → (if is_some held then removed else either_file removed None) ≡ removed
+either_removed-none None removed = either_file-none removed
+either_removed-none (Some file) removed = refl
 
 -- a test that is joined with nothing
 pub settled_with_none : (here there : Bool) → ((here && not false) || (false && not there)) ≡ here
@@ -36,7 +40,7 @@ same_entry a b held gone lent foreign created fixed =
 -- joining with nothing known changes nothing
 pub joined-blank : (entry : Entry) → joined entry blank ≡ entry
 joined-blank entry =
-    same_entry (joined entry blank) entry (either_file-none entry.held) (either_file-none entry.gone) (settled_with_none entry.lent entry.foreign) (settled_with_none entry.foreign entry.lent) (or_none entry.created) (settled_with_none entry.fixed entry.foreign)
+    same_entry (joined entry blank) entry (either_file-none entry.held) (either_removed-none entry.held entry.gone) (settled_with_none entry.lent entry.foreign) (settled_with_none entry.foreign entry.lent) (or_none entry.created) (settled_with_none entry.fixed entry.foreign)
 
 pub blank-joined : (entry : Entry) → joined blank entry ≡ entry
 blank-joined entry =

@@ -2,3 +2,4 @@ pub mod Entries
 pub mod Slots
 pub mod Listing
 pub mod MemPorts
+pub mod PortLaws

@@ -1,5 +1,5 @@
 -- What the calls on slots make of the port that they are seen as.
-use Rattle.std.proofs.Common.{◌≡◌, Bool, true, false, ◌&&◌, ◌||◌, not, List, [], Some, refl, ap, sym, ◌∙◌, subst, inl, inr}
+use Rattle.std.proofs.Common.{◌≡◌, Bool, true, false, ◌&&◌, ◌||◌, not, List, [], Some, None, refl, ap, sym, ◌∙◌, subst, inl, inr}
 use Rattle.hr_base.specs.declared.name.ChunkName.{ChunkName}
 use Rattle.std.proofs.lemmas.Bool.{cases_Bool}
 use Rattle.hr_base.specs.NameTests.{is_name}
@@ -83,7 +83,7 @@ gives_here old new slot file merges is =
     let j : joined slot.entry e ≡ joined (returned_entry file) e = ap (λ (x : Entry). joined x e) is in
     record {
       held = part_changes old new slot merges (λ (x : Entry). x.held) (Some file) (ap (λ (x : Entry). x.held) j);
-      gone = part_stays old new slot merges (λ (x : Entry). x.gone) (ap (λ (x : Entry). x.gone) j);
+      gone = part_changes old new slot merges (λ (x : Entry). x.gone) None (ap (λ (x : Entry). x.gone) j);
       lent = part_changes old new slot merges (λ (x : Entry). x.lent) false (ap (λ (x : Entry). x.lent) j ∙ and_false e.lent);
       foreign = part_changes old new slot merges (λ (x : Entry). x.foreign) (e.foreign || not e.lent) (ap (λ (x : Entry). x.foreign) j ∙ lent_or_foreign e.lent e.foreign);
       created = part_stays old new slot merges (λ (x : Entry). x.created) (ap (λ (x : Entry). x.created) j);

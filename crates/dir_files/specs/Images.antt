@@ -37,10 +37,13 @@ read_of port name = option_map (λ file. file.bytes) (port.held name)
 abbrev pub files_of : Image → Files
 files_of image name = option_map (λ bytes. record { bytes = bytes; front = length bytes; named = true }) (image name)
 
--- all that lies in the folder is durable, and nothing else is known of it
-pub record IsAtRest (port : Port) : Type 0 where
-  pub named : (name : ChunkName) (file : FileState) → port.held name ≡ Some file → file.named ≡ true
-  pub front : (name : ChunkName) (file : FileState) → port.held name ≡ Some file → file.front ≡ length file.bytes
-  pub gone : (name : ChunkName) → port.gone name ≡ None
-  pub lent : (name : ChunkName) → port.lent name ≡ false
-  pub foreign : (name : ChunkName) → port.foreign name ≡ false
+-- an image taken as a folder: its files lie there, all of them durable
+abbrev pub port_of_image : Image → Port
+port_of_image image = record {
+  held = files_of image;
+  gone = λ name. None;
+  lent = λ name. false;
+  foreign = λ name. false;
+  created = λ name. false;
+  fixed = λ name. false;
+}

@@ -1,6 +1,8 @@
 pub mod Files
 pub mod Ports
+pub mod PortStates
 pub mod Images
+pub mod Faults
 pub mod Plans
 pub mod Memory
 pub mod Links

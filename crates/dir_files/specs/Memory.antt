@@ -20,11 +20,12 @@ created_entry = record { held = None; gone = None; lent = true; foreign = false;
 abbrev pub returned_entry : FileState → Entry
 returned_entry file = record { held = Some file; gone = None; lent = false; foreign = true; created = false; fixed = false }
 
--- both are known: what is lent at one and foreign at the other is settled
+-- both are known: a file that came newly is the file of the name and no removed one can come back, and what is lent at
+-- one and foreign at the other is settled
 abbrev pub joined : Entry → Entry → Entry
 joined newer older = record {
   held = either_file newer.held older.held;
-  gone = either_file newer.gone older.gone;
+  gone = if is_some newer.held then newer.gone else either_file newer.gone older.gone;
   lent = (newer.lent && not older.foreign) || (older.lent && not newer.foreign);
   foreign = (newer.foreign && not older.lent) || (older.foreign && not newer.lent);
   created = newer.created || older.created;

@@ -3,7 +3,7 @@ use Rattle.std.specs.Prelude.{◌≡◌, ◌≢◌, ◌⊎◌, ◌↔◌, Bool, 
 use Rattle.std.specs.Option.{option_map}
 use Rattle.hr_base.specs.declared.name.ChunkName.{ChunkName}
 use Rattle.hr_base.specs.Names.{IsChunkName}
-use Rattle.dir_files.specs.Files.{FileState, Files, Names, new_file, named_file, ChangesAt, SameAt}
+use Rattle.dir_files.specs.Files.{FileState, Files, Names, new_file, named_file, IsFile, ChangesAt, SameAt}
 
 -- A port, without its count of faults.
 pub record Port : Type 0 where
@@ -71,12 +71,24 @@ pub record IsListing (port : Port) (names : List ChunkName) : Type 0 where
   pub once : AllPairs (λ a b. a ≢ b) names
   pub valid : All IsChunkName names
 
+-- what holds of every port: a crash keeps of a file what is there, no name is held and gone at once, and a fixed name
+-- is lent
+pub record IsPort (port : Port) : Type 0 where
+  pub held_fits : (name : ChunkName) (file : FileState) → port.held name ≡ Some file → IsFile file
+  pub gone_fits : (name : ChunkName) (file : FileState) → port.gone name ≡ Some file → IsFile file
+  pub apart : (name : ChunkName) → is_some (port.held name) ≡ true → port.gone name ≡ None
+  pub fixed_lent : (name : ChunkName) → port.fixed name ≡ true → port.lent name ≡ true
+
 -- no file of this name is here, and no handle of it is known here
 pub record IsFreeName (port : Port) (name : ChunkName) : Type 0 where
   pub held : port.held name ≡ None
   pub gone : port.gone name ≡ None
   pub lent : port.lent name ≡ false
   pub foreign : port.foreign name ≡ false
+
+-- the same as a test
+abbrev pub is_free : Port → ChunkName → Bool
+is_free port name = not (is_present port name) && (not (port.lent name) && not (port.foreign name))
 
 -- a handle of a file of this name, just created, is out
 pub record Creates (old new : Port) (name : ChunkName) : Type 0 where
@@ -106,10 +118,11 @@ pub record SyncsNames (old new : Port) : Type 0 where
   pub created : (name : ChunkName) → new.created name ≡ false
   pub fixed : (name : ChunkName) → new.fixed name ≡ (old.fixed name || (old.created name && old.lent name))
 
--- a handle came back: its file lies here, and its name is no longer lent, or is foreign where it never was
+-- a handle came back: its file lies here, no removed file of its name can come back, and its name is no longer lent, or
+-- is foreign where it never was
 pub record Gives (old new : Port) (name : ChunkName) (file : FileState) : Type 0 where
   pub held : ChangesAt old.held new.held name (Some file)
-  pub gone : SameAt old.gone new.gone
+  pub gone : ChangesAt old.gone new.gone name None
   pub lent : ChangesAt old.lent new.lent name false
   pub foreign : ChangesAt old.foreign new.foreign name (old.foreign name || not (old.lent name))
   pub created : SameAt old.created new.created

@@ -1,6 +1,6 @@
 //! What a port in memory knows of each name, in a chain of nodes that grows by nodes made elsewhere.
 
-ghost use Rattle.std.specs.Prelude.{◌≡◌, ◌∷◌, ◌++◌, [], None, Some, IfOk, OnOk, MatchOption};
+ghost use Rattle.std.specs.Prelude.{◌≡◌, ◌∷◌, ◌++◌, [], None, Some, IfOk, OnOk, MatchOption, if◌then◌else◌};
 ghost use Rattle.dir_files.specs.Files.{FileState, new_file, named_file};
 ghost use Rattle.dir_files.specs.Ports.{IsListing, either_file};
 ghost use Rattle.dir_files.specs.Links.{slots_of, IsTidy};
@@ -87,6 +87,21 @@ fn either(first: Option<Content>, second: Option<Content>) -> Option<Content>
     }
 }
 
+/// The first removed file, or the second where there is no first and no file came in its place.
+fn either_removed(
+    replaced: bool,
+    first: Option<Content>,
+    second: Option<Content>,
+) -> Option<Content>
+    ensures { result ≡ (if replaced then first else either_file first second) }
+{
+    if replaced {
+        first
+    } else {
+        either(first, second)
+    }
+}
+
 /// A link to the last node of a chain.
 fn last_link(slot: Slot, mut node: Box<Chain>) -> Link
     requires { IsChunkName slot.name }
@@ -138,8 +153,8 @@ impl Entry {
             created,
             fixed,
         } = newer;
+        self.gone = either_removed(held.is_some(), gone, self.gone.take());
         self.held = either(held, self.held.take());
-        self.gone = either(gone, self.gone.take());
         self.created = created || self.created;
         self.fixed = fixed && !self.foreign || self.fixed && !foreign;
         let here = self.lent;

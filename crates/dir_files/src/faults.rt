@@ -1,7 +1,8 @@
 //! When the calls of a port fail.
 
-ghost use Rattle.std.specs.Prelude.{◌≡◌, ◌≤◌, ◌+◌, ◌-◌, ◌^◌, [], true, min, drop, slice_get, if◌then◌else◌};
-ghost use Rattle.dir_files.specs.Plans.{fails, is_sound};
+ghost use Rattle.std.specs.Prelude.{◌≡◌, ◌≤◌, ◌+◌, ◌-◌, ◌^◌, [], true, min, drop, slice_get};
+ghost use Rattle.dir_files.specs.Faults.{CountsFault};
+ghost use Rattle.dir_files.specs.Plans.{FollowsPlan, ForksPlan, IsPlanned, is_sound};
 
 use std::alloc::Global;
 
@@ -36,9 +37,7 @@ fn first_plan(plans: &mut Vec<FaultPlan>) -> Option<FaultPlan>
 impl Faults {
     /// Of a port that follows the first plan, and whose forks follow the others.
     pub fn new(mut plans: Vec<FaultPlan>) -> Faults
-        ensures plan { result.plan ≡ slice_get plans.items 0 }
-        ensures forks { result.forks.items ≡ drop 1 plans.items }
-        ensures calls { result.calls ≡ 0 }
+        ensures planned { IsPlanned result plans.items }
         ensures count { result.count ≡ 0 }
         ensures sound { plans.items ≡ [] → is_sound result ≡ true }
     {
@@ -53,16 +52,11 @@ impl Faults {
 
     /// Of a fork, which takes the next plan.
     pub fn fork(&mut self, alloc: Global) -> Faults
-        ensures fork_plan { result.plan ≡ slice_get self.old.forks.items 0 }
-        ensures fork_forks { result.forks.items ≡ [] }
-        ensures fresh_calls { result.calls ≡ 0 }
-        ensures fresh { result.count ≡ 0 }
-        ensures fresh_sound { is_sound self.old ≡ true → is_sound result ≡ true }
-        ensures forks { self.new.forks.items ≡ drop 1 self.old.forks.items }
-        ensures plan { self.new.plan ≡ self.old.plan }
-        ensures calls { self.new.calls ≡ self.old.calls }
-        ensures kept { self.new.count ≡ self.old.count }
-        ensures stays_sound { is_sound self.old ≡ true → is_sound self.new ≡ true }
+        ensures planned { ForksPlan self.old self.new result }
+        ensures count { self.new.count ≡ self.old.count }
+        ensures fork_count { result.count ≡ 0 }
+        ensures sound { is_sound self.old ≡ true → is_sound self.new ≡ true }
+        ensures fork_sound { is_sound self.old ≡ true → is_sound result ≡ true }
     {
         let plan = first_plan(&mut self.forks);
         Faults {
@@ -80,20 +74,16 @@ impl Faults {
         ensures calls { self.new.calls ≡ self.old.calls }
         ensures added { self.new.count ≡ min (self.old.count + other.count) (2 ^ 64 - 1) }
         ensures kept { self.old.count ≤ self.new.count }
-        ensures stays_sound { is_sound self.old ≡ true → is_sound other ≡ true → is_sound self.new ≡ true }
+        ensures sound { is_sound self.old ≡ true → is_sound other ≡ true → is_sound self.new ≡ true }
     {
         self.count = self.count.saturating_add(other.count);
     }
 
-    /// Counts a call, and answers whether it fails.
+    /// Counts a call, and answers whether the disk refuses it.
     pub fn strikes(&mut self) -> bool
-        ensures planned { result ≡ fails self.old.plan self.new.calls }
-        ensures calls { self.new.calls ≡ min (self.old.calls + 1) (2 ^ 64 - 1) }
-        ensures plan { self.new.plan ≡ self.old.plan }
-        ensures forks { self.new.forks ≡ self.old.forks }
-        ensures count { self.new.count ≡ (if result then min (self.old.count + 1) (2 ^ 64 - 1) else self.old.count) }
-        ensures kept { self.old.count ≤ self.new.count }
-        ensures stays_sound { is_sound self.old ≡ true → is_sound self.new ≡ true }
+        ensures planned { FollowsPlan self.old self.new result }
+        ensures counts { CountsFault result self.old.count self.new.count }
+        ensures sound { is_sound self.old ≡ true → is_sound self.new ≡ true }
     {
         self.calls = self.calls.saturating_add(1);
         let struck = match &self.plan {

@@ -1,6 +1,10 @@
 //! The interface of a folder.
 
+ghost use Rattle.std.specs.Prelude.{◌≡◌};
+ghost use Rattle.dir_files.specs.declared.folder.FolderRefusal.TheVariants.{Memory as OutOfMemory};
+
 use hr_base::{ChunkName, Memory, Named};
+use std::alloc::AllocError;
 use thiserror::Error;
 
 /// Why a call on a folder did nothing, or not all.
@@ -14,14 +18,23 @@ pub enum FolderRefusal {
     Fault,
 }
 
+impl From<AllocError> for FolderRefusal {
+    ghost from_gives = { λ _ e. e ≡ OutOfMemory };
+
+    fn from(_refused: AllocError) -> FolderRefusal {
+        FolderRefusal::Memory
+    }
+}
+
 /// A port of a folder of chunk files. What each call makes of files, names and the count of faults stands in its
 /// clauses; `docs/DEFINITIONS.md` has the words in plain language. Clauses on files hold where the folder tells its content.
 pub trait Folder: Sized {
     ghost use Rattle.std.specs.Prelude.{◌≡◌, ◌↔◌, ◌≤◌, ◌+◌, ◌-◌, ◌^◌, ℕ, Bool, true, false, List, Option, Some, None, IsTrue, IsErrOf, IfOk, OnOk, OnErr, MatchBool, All, length, min, take};
     ghost use Rattle.hr_base.specs.declared.name.ChunkName.{ChunkName};
     ghost use Rattle.hr_base.specs.Names.{IsChunkName};
-    ghost use Rattle.dir_files.specs.Files.{FileState, new_file, with_bytes, synced_file, named_file, Rose};
-    ghost use Rattle.dir_files.specs.Ports.{Port, SamePort, IsEmptyPort, CanJoin, Joins, IsListing, IsFreeName, Creates, MayCreate, SyncsNames, Gives};
+    ghost use Rattle.dir_files.specs.Files.{FileState, new_file, with_bytes, synced_file, named_file};
+    ghost use Rattle.dir_files.specs.Faults.{is_fault, CountsFault, StaysSound};
+    ghost use Rattle.dir_files.specs.Ports.{Port, IsPort, SamePort, IsEmptyPort, CanJoin, Joins, IsListing, IsFreeName, Creates, MayCreate, SyncsNames, Gives};
 
     /// A handle of a file. It has the name of its file, and it moves by ownership.
     type File: Named;
@@ -51,8 +64,8 @@ pub trait Folder: Sized {
         ensures fresh_count { IfOk result (λ fork. count fork ≡ 0) }
         ensures fresh_sound { sound self.old ≡ true → IfOk result (λ fork. sound fork ≡ true) }
         ensures same { tells ≡ true → SamePort (port self.old) (port self.new) }
-        ensures kept { count self.old ≤ count self.new }
-        ensures stays_sound { sound self.old ≡ true → (sound self.new ≡ true) × (count self.new ≡ 0) };
+        ensures counts { count self.new ≡ count self.old }
+        ensures stays_sound { StaysSound (sound self.old) (sound self.new) (count self.new) };
 
     /// Joins another port of the same folder to this one.
     fn adopt(&mut self, other: Self)
@@ -60,16 +73,15 @@ pub trait Folder: Sized {
         ensures joined { tells ≡ true → Joins (port self.old) (port other) (port self.new) }
         ensures added { count self.new ≡ min (count self.old + count other) (2 ^ 64 - 1) }
         ensures kept { count self.old ≤ count self.new }
-        ensures stays_sound { sound self.old ≡ true → sound other ≡ true → (sound self.new ≡ true) × (count self.new ≡ 0) };
+        ensures stays_sound { sound other ≡ true → StaysSound (sound self.old) (sound self.new) (count self.new) };
 
     /// The chunk names of the held files, in any order. Names of files that are no chunk names are passed over.
     fn names(&mut self) -> Result<Vec<ChunkName>, FolderRefusal>
         ensures valid { IfOk result (λ names. All IsChunkName names.items) }
         ensures listed { tells ≡ true → IfOk result (λ names. IsListing (port self.old) names.items) }
         ensures same { tells ≡ true → SamePort (port self.old) (port self.new) }
-        ensures fault { IsErrOf result FolderRefusal.Fault → Rose (count self.old) (count self.new) }
-        ensures kept { count self.old ≤ count self.new }
-        ensures stays_sound { sound self.old ≡ true → (sound self.new ≡ true) × (count self.new ≡ 0) };
+        ensures counts { CountsFault (is_fault result) (count self.old) (count self.new) }
+        ensures stays_sound { StaysSound (sound self.old) (sound self.new) (count self.new) };
 
     /// Makes an empty file, and gives its handle.
     fn create(&mut self, name: ChunkName) -> Result<Self::File, FolderRefusal>
@@ -79,9 +91,8 @@ pub trait Folder: Sized {
         ensures file { tells ≡ true → IfOk result (λ file. (Self.File.name file ≡ Some name) × (state file ≡ new_file)) }
         ensures failed { tells ≡ true → IsErrOf result FolderRefusal.Fault → MayCreate (port self.old) (port self.new) name }
         ensures memory { tells ≡ true → IsErrOf result FolderRefusal.Memory → SamePort (port self.old) (port self.new) }
-        ensures fault { IsErrOf result FolderRefusal.Fault → Rose (count self.old) (count self.new) }
-        ensures kept { count self.old ≤ count self.new }
-        ensures stays_sound { sound self.old ≡ true → (sound self.new ≡ true) × (count self.new ≡ 0) };
+        ensures counts { CountsFault (is_fault result) (count self.old) (count self.new) }
+        ensures stays_sound { StaysSound (sound self.old) (sound self.new) (count self.new) };
 
     /// Adds bytes at a file's end.
     fn append(&mut self, file: &mut Self::File, piece: &[u8]) -> Result<(), FolderRefusal>
@@ -90,9 +101,8 @@ pub trait Folder: Sized {
         ensures memory { tells ≡ true → IsErrOf result FolderRefusal.Memory → state file.new ≡ state file.old }
         ensures name { tells ≡ true → Self.File.name file.new ≡ Self.File.name file.old }
         ensures same { tells ≡ true → SamePort (port self.old) (port self.new) }
-        ensures fault { IsErrOf result FolderRefusal.Fault → Rose (count self.old) (count self.new) }
-        ensures kept { count self.old ≤ count self.new }
-        ensures stays_sound { sound self.old ≡ true → (sound self.new ≡ true) × (count self.new ≡ 0) };
+        ensures counts { CountsFault (is_fault result) (count self.old) (count self.new) }
+        ensures stays_sound { StaysSound (sound self.old) (sound self.new) (count self.new) };
 
     /// Makes a file's bytes durable. A call that was refused adds nothing to them.
     fn sync_file(&mut self, file: &mut Self::File) -> Result<(), FolderRefusal>
@@ -100,17 +110,15 @@ pub trait Folder: Sized {
         ensures refused { tells ≡ true → OnErr result (state file.new ≡ state file.old) }
         ensures name { tells ≡ true → Self.File.name file.new ≡ Self.File.name file.old }
         ensures same { tells ≡ true → SamePort (port self.old) (port self.new) }
-        ensures fault { IsErrOf result FolderRefusal.Fault → Rose (count self.old) (count self.new) }
-        ensures kept { count self.old ≤ count self.new }
-        ensures stays_sound { sound self.old ≡ true → (sound self.new ≡ true) × (count self.new ≡ 0) };
+        ensures counts { CountsFault (is_fault result) (count self.old) (count self.new) }
+        ensures stays_sound { StaysSound (sound self.old) (sound self.new) (count self.new) };
 
     /// Makes the names of this port durable, and the removals too.
     fn sync_names(&mut self) -> Result<(), FolderRefusal>
         ensures synced { tells ≡ true → OnOk result (SyncsNames (port self.old) (port self.new)) }
         ensures refused { tells ≡ true → OnErr result (SamePort (port self.old) (port self.new)) }
-        ensures fault { IsErrOf result FolderRefusal.Fault → Rose (count self.old) (count self.new) }
-        ensures kept { count self.old ≤ count self.new }
-        ensures stays_sound { sound self.old ≡ true → (sound self.new ≡ true) × (count self.new ≡ 0) };
+        ensures counts { CountsFault (is_fault result) (count self.old) (count self.new) }
+        ensures stays_sound { StaysSound (sound self.old) (sound self.new) (count self.new) };
 
     /// Tells a handle that its name is durable, where it is, and answers whether it is. It touches no disk.
     fn mark(&self, file: &mut Self::File) -> bool
@@ -118,14 +126,17 @@ pub trait Folder: Sized {
         ensures marked { tells ≡ true → MatchBool result (state file.new ≡ named_file (state file.old)) (state file.new ≡ state file.old) }
         ensures name { tells ≡ true → Self.File.name file.new ≡ Self.File.name file.old };
 
-    /// Takes a handle back. Its file is held from then on.
+    /// Takes a handle back. Its file is held from then on, and no removed file of its name can come back.
     fn give(&mut self, file: Self::File)
         ensures given { tells ≡ true → (name : ChunkName) → Self.File.name file ≡ Some name → Gives (port self.old) (port self.new) name (state file) }
-        ensures kept { count self.old ≤ count self.new }
-        ensures stays_sound { sound self.old ≡ true → (sound self.new ≡ true) × (count self.new ≡ 0) };
+        ensures counts { count self.new ≡ count self.old }
+        ensures stays_sound { StaysSound (sound self.old) (sound self.new) (count self.new) };
 
     /// A file has what a crash keeps of it.
     ghost file_fits: { (file : Self.File) → tells ≡ true → (state file).front ≤ length (state file).bytes };
+
+    /// A crash keeps of each file what is there, no name is held and gone at once, and a fixed name is lent.
+    ghost lawful: { (it : Self) → tells ≡ true → IsPort (port it) };
 
     /// A handle knows its name.
     ghost file_named: { (file : Self.File) → tells ≡ true → (name : ChunkName) × (Self.File.name file ≡ Some name) };

@@ -5,6 +5,7 @@ mod chain;
 mod content;
 mod faults;
 mod folder;
+pub mod laws;
 mod mem_file;
 mod mem_folder;
 

@@ -1,8 +1,13 @@
 //! A folder that lies in memory, and whose calls fail as planned.
 
-ghost use Rattle.std.specs.Prelude.{◌≡◌, Some, None, [], true, MatchOption};
+ghost use Rattle.std.specs.Prelude.{◌≡◌, ◌⊎◌, ◌/◌, Some, None, [], true, All, length, take, MatchOption, IfOk, IsErrOf, OnOk, OnErr};
+ghost use Rattle.hr_base.specs.Names.{IsChunkName};
 ghost use Rattle.dir_files.specs.Files.{FileState};
-ghost use Rattle.dir_files.specs.Ports.{IsEmptyPort};
+ghost use Rattle.dir_files.specs.Files.{new_file, with_bytes, synced_file};
+ghost use Rattle.dir_files.specs.Ports.{IsEmptyPort, IsPort, SamePort, IsListing, IsFreeName, Creates, SyncsNames};
+ghost use Rattle.dir_files.specs.Faults.{is_fault, CountsFault, StaysSound};
+ghost use Rattle.dir_files.specs.Memory.{port_of};
+ghost use Rattle.dir_files.specs.Plans.{is_sound, FollowsPlan, ForksPlan, IsPlanned};
 
 use crate::chain::{Chain, Entry, Slot};
 use crate::content::Content;
@@ -18,6 +23,7 @@ pub struct MemFolder {
     chain: Chain,
     faults: Faults,
     alloc: Global,
+    ghost lawful: { IsPort (port_of chain) },
 }
 
 impl MemFolder {
@@ -25,6 +31,7 @@ impl MemFolder {
     /// fails, and neither does a fork of a fork. It takes no memory.
     pub fn empty(alloc: Global, plans: Vec<FaultPlan>) -> MemFolder
         ensures empty { IsEmptyPort (⟦<MemFolder as Folder>⟧.port result) }
+        ensures planned { IsPlanned result.faults plans.items }
         ensures count { ⟦<MemFolder as Folder>⟧.count result ≡ 0 }
         ensures sound { plans.items ≡ [] → ⟦<MemFolder as Folder>⟧.sound result ≡ true }
     {
@@ -32,6 +39,21 @@ impl MemFolder {
             chain: Chain::empty(),
             faults: Faults::new(plans),
             alloc,
+        }
+    }
+
+    /// Counts a call, which the disk refuses where that is planned.
+    fn strike(&mut self) -> Result<(), FolderRefusal>
+        ensures cause { OnErr result (IsErrOf result FolderRefusal.Fault) }
+        ensures same { self.new.chain ≡ self.old.chain }
+        ensures planned { FollowsPlan self.old.faults self.new.faults (is_fault result) }
+        ensures counts { CountsFault (is_fault result) self.old.faults.count self.new.faults.count }
+        ensures stays_sound { StaysSound (is_sound self.old.faults) (is_sound self.new.faults) self.new.faults.count }
+    {
+        if self.faults.strikes() {
+            Err(FolderRefusal::Fault)
+        } else {
+            Ok(())
         }
     }
 
@@ -70,13 +92,23 @@ impl Folder for MemFolder {
 
     ghost sound_count = { λ folder sound. sound_count folder.faults sound };
 
+    ghost lawful = { λ folder _. folder.lawful };
+
     ghost file_named = { λ file _. (file.name, refl) };
 
     fn faults(&self) -> u64 {
         self.faults.count
     }
 
-    fn fork(&mut self) -> Result<MemFolder, Memory> {
+    fn fork(&mut self) -> Result<MemFolder, Memory>
+        ensures fresh { IfOk result (λ fork. IsEmptyPort (port_of fork.chain)) }
+        ensures fresh_count { IfOk result (λ fork. fork.faults.count ≡ 0) }
+        ensures fresh_sound { is_sound self.old.faults ≡ true → IfOk result (λ fork. is_sound fork.faults ≡ true) }
+        ensures planned { IfOk result (λ fork. ForksPlan self.old.faults self.new.faults fork.faults) }
+        ensures same { self.new.chain ≡ self.old.chain }
+        ensures counts { self.new.faults.count ≡ self.old.faults.count }
+        ensures stays_sound { StaysSound (is_sound self.old.faults) (is_sound self.new.faults) self.new.faults.count }
+    {
         Ok(MemFolder {
             chain: Chain::empty(),
             faults: self.faults.fork(self.alloc),
@@ -96,55 +128,78 @@ impl Folder for MemFolder {
         self.faults.adopt(faults);
     }
 
-    fn names(&mut self) -> Result<Vec<ChunkName>, FolderRefusal> {
-        if self.faults.strikes() {
-            return Err(FolderRefusal::Fault);
-        }
+    fn names(&mut self) -> Result<Vec<ChunkName>, FolderRefusal>
+        ensures valid { IfOk result (λ names. All IsChunkName names.items) }
+        ensures listed { IfOk result (λ names. IsListing (port_of self.old.chain) names.items) }
+        ensures same { self.new.chain ≡ self.old.chain }
+        ensures planned { FollowsPlan self.old.faults self.new.faults (is_fault result) }
+        ensures counts { CountsFault (is_fault result) self.old.faults.count self.new.faults.count }
+        ensures stays_sound { StaysSound (is_sound self.old.faults) (is_sound self.new.faults) self.new.faults.count }
+    {
+        self.strike()?;
         let mut names = Vec::new(self.alloc);
-        match self.chain.list(&mut names) {
-            Ok(()) => Ok(names),
-            Err(_) => Err(FolderRefusal::Memory),
-        }
+        self.chain.list(&mut names)?;
+        Ok(names)
     }
 
-    fn create(&mut self, name: ChunkName) -> Result<MemFile, FolderRefusal> {
-        if self.faults.strikes() {
-            return Err(FolderRefusal::Fault);
-        }
-        let Ok(node) = Chain::spare(self.alloc) else {
-            return Err(FolderRefusal::Memory);
-        };
-        let Ok(file) = MemFile::new(self.alloc, name) else {
-            return Err(FolderRefusal::Memory);
-        };
+    fn create(&mut self, name: ChunkName) -> Result<MemFile, FolderRefusal>
+        requires valid { IsChunkName name }
+        requires free { IsFreeName (port_of self.old.chain) name }
+        ensures created { OnOk result (Creates (port_of self.old.chain) (port_of self.new.chain) name) }
+        ensures file { IfOk result (λ file. (file.name ≡ name) × (file.content ≡ new_file)) }
+        ensures refused { OnErr result (self.new.chain ≡ self.old.chain) }
+        ensures planned { FollowsPlan self.old.faults self.new.faults (is_fault result) }
+        ensures counts { CountsFault (is_fault result) self.old.faults.count self.new.faults.count }
+        ensures stays_sound { StaysSound (is_sound self.old.faults) (is_sound self.new.faults) self.new.faults.count }
+    {
+        self.strike()?;
+        let node = Chain::spare(self.alloc)?;
+        let file = MemFile::new(self.alloc, name)?;
         let entry = Entry::created();
         self.chain.merge(Slot { name, entry }, node);
         Ok(file)
     }
 
-    fn append(&mut self, file: &mut MemFile, piece: &[u8]) -> Result<(), FolderRefusal> {
-        if self.faults.strikes() {
+    fn append(&mut self, file: &mut MemFile, piece: &[u8]) -> Result<(), FolderRefusal>
+        ensures appended { OnOk result (file.new.content ≡ with_bytes file.old.content piece.now) }
+        ensures failed { IsErrOf result FolderRefusal.Fault → (file.new.content ≡ with_bytes file.old.content (take (length piece.now / 2) piece.now)) ⊎ (file.new.content ≡ file.old.content) }
+        ensures memory { IsErrOf result FolderRefusal.Memory → file.new.content ≡ file.old.content }
+        ensures name { file.new.name ≡ file.old.name }
+        ensures same { self.new.chain ≡ self.old.chain }
+        ensures planned { FollowsPlan self.old.faults self.new.faults (is_fault result) }
+        ensures counts { CountsFault (is_fault result) self.old.faults.count self.new.faults.count }
+        ensures stays_sound { StaysSound (is_sound self.old.faults) (is_sound self.new.faults) self.new.faults.count }
+    {
+        if let Err(refusal) = self.strike() {
             file.append_half(piece);
-            return Err(FolderRefusal::Fault);
+            return Err(refusal);
         }
-        match file.append(piece) {
-            Ok(()) => Ok(()),
-            Err(_) => Err(FolderRefusal::Memory),
-        }
+        file.append(piece)?;
+        Ok(())
     }
 
-    fn sync_file(&mut self, file: &mut MemFile) -> Result<(), FolderRefusal> {
-        if self.faults.strikes() {
-            return Err(FolderRefusal::Fault);
-        }
+    fn sync_file(&mut self, file: &mut MemFile) -> Result<(), FolderRefusal>
+        ensures synced { OnOk result (file.new.content ≡ synced_file file.old.content) }
+        ensures refused { OnErr result (file.new.content ≡ file.old.content) }
+        ensures name { file.new.name ≡ file.old.name }
+        ensures same { self.new.chain ≡ self.old.chain }
+        ensures planned { FollowsPlan self.old.faults self.new.faults (is_fault result) }
+        ensures counts { CountsFault (is_fault result) self.old.faults.count self.new.faults.count }
+        ensures stays_sound { StaysSound (is_sound self.old.faults) (is_sound self.new.faults) self.new.faults.count }
+    {
+        self.strike()?;
         file.sync();
         Ok(())
     }
 
-    fn sync_names(&mut self) -> Result<(), FolderRefusal> {
-        if self.faults.strikes() {
-            return Err(FolderRefusal::Fault);
-        }
+    fn sync_names(&mut self) -> Result<(), FolderRefusal>
+        ensures synced { OnOk result (SyncsNames (port_of self.old.chain) (port_of self.new.chain)) }
+        ensures refused { OnErr result (self.new.chain ≡ self.old.chain) }
+        ensures planned { FollowsPlan self.old.faults self.new.faults (is_fault result) }
+        ensures counts { CountsFault (is_fault result) self.old.faults.count self.new.faults.count }
+        ensures stays_sound { StaysSound (is_sound self.old.faults) (is_sound self.new.faults) self.new.faults.count }
+    {
+        self.strike()?;
         self.chain.sync();
         Ok(())
     }

@@ -1,8 +1,18 @@
-use Rattle.std.proofs.Common.{◌≡◌}
+use Rattle.std.proofs.Common.{◌≡◌, refl}
+use Rattle.dir_files.specs.Ports.{Gives}
+use Rattle.dir_files.specs.Memory.{port_of}
 use Rattle.dir_files.proofs.MemPorts.{Gives-merged}
+use Rattle.dir_files.proofs.PortLaws.{IsPort-gives}
 use Rattle.dir_files.proofs.mem_folder.MemFolderFolder.give.Goals as goal
 
 pub returns-clause-given : goal.returns-clause-given
 returns-clause-given c = λ tells name named.
     let same : c.into_slot-slot.result.0.name ≡ name = cc (named, c.into_slot-slot.ensures.name) in
     Gives-merged c.args.self.now.chain c.merge.new.self c.into_slot-slot.result.0 name c.args.file.content c.merge.ensures same c.into_slot-slot.ensures.entry
+
+pub invariant_of-self : goal.invariant_of-self
+invariant_of-self c =
+    let slot = c.into_slot-slot.result.0 in
+    let gives : Gives (port_of c.args.self.now.chain) (port_of c.merge.new.self) slot.name c.args.file.content =
+    Gives-merged c.args.self.now.chain c.merge.new.self slot slot.name c.args.file.content c.merge.ensures refl c.into_slot-slot.ensures.entry in
+    record { lawful = IsPort-gives (port_of c.args.self.now.chain) (port_of c.merge.new.self) c.args.self.now.lawful slot.name c.args.file.content c.args.file.fits gives }
