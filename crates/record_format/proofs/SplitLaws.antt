@@ -1,20 +1,21 @@
 -- What holds of spellings and of splits.
 use Rattle.std.proofs.Common.{◌≡◌, ℕ, suc, zero, ◌<◌, ◌≤◌, ⊎_elim, take-append-drop, List, [], ◌∷◌, ◌++◌, length, take, drop, All, refl, sym, ap, ◌∙◌, subst, ap₂, arith, length-append, append_assoc, append-nil}
 use Rattle.std.specs.List.{AllByRecursion}
-use Rattle.std.proofs.lemmas.List.{take-append-le, drop-append-le, take_at, drop_at, nil_from_length}
-use Rattle.std.proofs.lemmas.List.Elements.{recursion_from_All, All-nil, All-cons, All-drop}
+use Rattle.std.proofs.lemmas.List.{take-append-le, drop-append-le, take_at, drop_at, nil_from_length, flat_map_more}
+use Rattle.std.proofs.lemmas.List.Elements.{recursion_from_All, All-nil, All-cons, All-push, All-drop}
 use Rattle.std.proofs.lemmas.Bool.{cases_lt}
 use Rattle.hr_base.specs.declared.name.Class.{Class}
 use Rattle.hr_base.specs.declared.name.Class.TheVariants.{Value as Values, Tomb as Tombs, Clear as Clears}
 use Rattle.hr_base.specs.Records.{header_length}
 use Rattle.record_format.specs.declared.record.Record.{Record}
 use Rattle.record_format.specs.Spelling.{seq_of, key_of, value_of, class_of_record, spelling, spellings}
-use Rattle.record_format.specs.Splits.{IsOfClass, SpellsNone, Splits, IsTorn, header_seq, header_key, header_value}
+use Rattle.record_format.specs.Headers.{header_seq, header_key, header_value}
+use Rattle.record_format.specs.Splits.{IsOfClass, SpellsNone, BeginsWith, Splits, IsTorn}
 use Rattle.record_format.specs.Prefixes.{PrefixSplit}
-use Rattle.record_format.specs.Fronts.{Front, front_or_none}
-pub use Rattle.record_format.specs.Headers.{spelling_length}
-use Rattle.record_format.specs.Headers.{header_seq-spelling, header_key-spelling, header_value-spelling, header_seq-append, header_key-append, header_value-append}
-pub use Rattle.record_format.specs.Distinct.{no_spelling_begins_another}
+use Rattle.record_format.proofs.Fronts.{Front, front_or_none}
+pub use Rattle.record_format.proofs.HeaderLaws.{spelling_length}
+use Rattle.record_format.proofs.HeaderLaws.{header_seq-spelling, header_key-spelling, header_value-spelling, header_seq-append, header_key-append, header_value-append}
+pub use Rattle.record_format.proofs.Distinct.{no_spelling_begins_another}
 
 header_fits : (c : Class) → 16 ≤ header_length c
 header_fits Values = omega arith
@@ -133,24 +134,43 @@ one_split_of c (r ∷ rs) (s ∷ ss) x y each_r each_s none_x none_y e =
 pub one_split : (c : Class) (bytes : List ℕ) (rs ss : List Record) (x y : List ℕ) → Splits c bytes rs x → Splits c bytes ss y → (rs ≡ ss) × (x ≡ y)
 one_split c bytes rs ss x y a b = one_split_of c rs ss x y (recursion_from_All (IsOfClass c) rs a.each) (recursion_from_All (IsOfClass c) ss b.each) a.none b.none (sym a.whole ∙ b.whole)
 
+-- ---- one record after another
+
+pub none_split : (c : Class) (bytes : List ℕ) → SpellsNone c bytes → Splits c bytes [] bytes
+none_split c bytes none = record { whole = refl; each = All-nil (IsOfClass c); none = none }
+
+pub record_splits_off : (c : Class) (bytes : List ℕ) (r : Record) (more : List ℕ) (rs : List Record) (rest : List ℕ) → IsOfClass c r → bytes ≡ spelling r ++ more → Splits c more rs rest → Splits c bytes (r ∷ rs) rest
+record_splits_off c bytes r more rs rest of e later = record {
+  whole = e ∙ ap (λ (s : List ℕ). spelling r ++ s) later.whole ∙ sym (append_assoc (spelling r) (spellings rs) rest);
+  each = All-cons (IsOfClass c) r rs of later.each;
+  none = later.none;
+}
+
+pub begins_with_none : (c : Class) (bytes : List ℕ) → BeginsWith c bytes [] bytes
+begins_with_none c bytes = record { whole = refl; each = All-nil (IsOfClass c) }
+
+pub begins_with_more : (c : Class) (bytes : List ℕ) (rs : List Record) (rest : List ℕ) (r : Record) (more : List ℕ) → BeginsWith c bytes rs rest → IsOfClass c r → rest ≡ spelling r ++ more → BeginsWith c bytes (rs ++ r ∷ []) more
+begins_with_more c bytes rs rest r more b of e = record {
+  whole = b.whole ∙ ap (λ (s : List ℕ). spellings rs ++ s) e ∙ sym (append_assoc (spellings rs) (spelling r) more) ∙ ap (λ (s : List ℕ). s ++ more) (flat_map_more spelling [] rs r);
+  each = All-push (IsOfClass c) rs r b.each of;
+}
+
+pub begins_and_ends : (c : Class) (bytes : List ℕ) (rs : List Record) (rest : List ℕ) → BeginsWith c bytes rs rest → SpellsNone c rest → Splits c bytes rs rest
+begins_and_ends c bytes rs rest b none = record { whole = b.whole; each = b.each; none = none }
+
+pub begins_before : (c : Class) (bytes : List ℕ) (rs : List Record) (rest : List ℕ) → BeginsWith c bytes rs rest → drop (length (spellings rs)) bytes ≡ rest
+begins_before c bytes rs rest b = ap (λ (s : List ℕ). drop (length (spellings rs)) s) b.whole ∙ drop_at (spellings rs) rest (length (spellings rs)) refl
+
 -- ---- all bytes split
 
 abbrev SomeSplit : Class → List ℕ → Type 0
 SomeSplit c bytes = (rs : List Record) × (rest : List ℕ) × Splits c bytes rs rest
 
-none_splits : (c : Class) (bytes : List ℕ) → SpellsNone c bytes → SomeSplit c bytes
-none_splits c bytes none = ([], bytes, record { whole = refl; each = All-nil (IsOfClass c); none = none })
+no_more : (c : Class) (bytes : List ℕ) → SpellsNone c bytes → SomeSplit c bytes
+no_more c bytes none = ([], bytes, none_split c bytes none)
 
 more_splits : (c : Class) (bytes : List ℕ) (front : Front c bytes) → SomeSplit c front.more → SomeSplit c bytes
-more_splits c bytes front later = (
-  front.first ∷ later.0,
-  later.1,
-  record {
-    whole = front.whole ∙ ap (λ (s : List ℕ). spelling front.first ++ s) later.2.whole ∙ sym (append_assoc (spelling front.first) (spellings later.0) later.1);
-    each = All-cons (IsOfClass c) front.first later.0 front.of later.2.each;
-    none = later.2.none;
-  },
-)
+more_splits c bytes front later = (front.first ∷ later.0, later.1, record_splits_off c bytes front.first front.more later.0 later.1 front.of front.whole later.2)
 
 shorter : (c : Class) (bytes : List ℕ) (n : ℕ) (front : Front c bytes) → length bytes ≤ suc n → length front.more ≤ n
 shorter c bytes n front h = omega (arith, ap length front.whole, length-append (spelling front.first) front.more, spelling_fills front.first)
@@ -161,11 +181,11 @@ below_more_bytes c bytes front all =
     subst (λ (s : List ℕ). All (λ b. b < 256) s) rest (All-drop (λ b. b < 256) (length (spelling front.first)) (spelling front.first ++ front.more) (subst (λ (s : List ℕ). All (λ b. b < 256) s) front.whole all))
 
 splits_within : (n : ℕ) (c : Class) (bytes : List ℕ) → length bytes ≤ n → All (λ b. b < 256) bytes → SomeSplit c bytes
-splits_within zero c bytes h all = none_splits c bytes (subst (SpellsNone c) (sym (nil_from_length bytes (omega arith))) (nothing_spells c))
+splits_within zero c bytes h all = no_more c bytes (subst (SpellsNone c) (sym (nil_from_length bytes (omega arith))) (nothing_spells c))
 splits_within (suc n) c bytes h all =
     ⊎_elim
     (λ front. more_splits c bytes front (splits_within n c front.more (shorter c bytes n front h) (below_more_bytes c bytes front all)))
-    (λ none. none_splits c bytes none)
+    (λ none. no_more c bytes none)
     (front_or_none c bytes all)
 
 pub some_split : (c : Class) (bytes : List ℕ) → All (λ b. b < 256) bytes → (rs : List Record) × (rest : List ℕ) × Splits c bytes rs rest

@@ -7,8 +7,9 @@ use Rattle.hr_base.specs.declared.name.Seq.{Seq}
 use Rattle.record_format.specs.declared.record.Record.{Record}
 use Rattle.record_format.specs.declared.record.Record.TheVariants.{Value, Tomb, Clear}
 use Rattle.record_format.specs.Spelling.{IsRecord, seq_of, prefix_of, key_of, value_of, class_of_record, spelling}
-use Rattle.record_format.specs.Splits.{IsOfClass, header_seq, header_key, header_value}
-use Rattle.record_format.specs.Headers.{header_seq-spelling, header_prefix, header_prefix-spelling, header_key-spelling, header_value-spelling}
+use Rattle.record_format.specs.Headers.{header_seq, header_prefix, header_key, header_value}
+use Rattle.record_format.specs.Splits.{IsOfClass}
+use Rattle.record_format.proofs.HeaderLaws.{header_seq-spelling, header_prefix-spelling, header_key-spelling, header_value-spelling}
 
 -- two lists that begin with pieces of one length
 append_split : (p q x y : List ℕ) → length p ≡ length q → p ++ x ≡ q ++ y → (p ≡ q) × (x ≡ y)
