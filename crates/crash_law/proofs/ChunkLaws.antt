@@ -10,7 +10,7 @@ use Rattle.record_format.specs.declared.record.Record.{Record}
 use Rattle.record_format.specs.Spelling.{spellings}
 use Rattle.record_format.specs.Splits.{Splits, IsOfClass}
 use Rattle.record_format.specs.Prefixes.{PrefixSplit}
-use Rattle.record_format.specs.Laws.{a_prefix_splits}
+use Rattle.record_format.proofs.SplitLaws.{a_prefix_splits}
 use Rattle.crash_law.specs.Chunks.{IsChunk, LeavesFront}
 
 module _ (class : Class) (file : FileState) (durable tail : List Record) (missing bytes : List ℕ) (valid : All (IsOfClass class) (durable ++ tail))

@@ -15,7 +15,7 @@ use Rattle.dir_files.specs.Images.{Image, MayLeave, KeepsFront}
 use Rattle.record_format.specs.declared.record.Record.{Record}
 use Rattle.record_format.specs.Spelling.{seq_of, spellings}
 use Rattle.record_format.specs.Splits.{Splits, IsOfClass, IsTorn}
-use Rattle.record_format.specs.Laws.{one_split}
+use Rattle.record_format.proofs.SplitLaws.{one_split}
 use Rattle.crash_law.specs.Commands.{maps_after_all}
 use Rattle.crash_law.specs.Numbered.{IsIn, commands_of}
 use Rattle.crash_law.specs.Restarts.{Fact, IsSoundPart, IsRestartOf, RestartsAs}
