@@ -1,8 +1,5 @@
 pub mod Outcome
-pub mod NameOrder
-pub mod Session
-pub mod Writing
-pub mod Reading
-pub mod Words
-pub mod Folders
 pub mod Scripts
+pub mod Session
+pub mod Folders
+pub mod Words

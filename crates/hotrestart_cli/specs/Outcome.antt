@@ -1,6 +1,7 @@
 -- How a session ends, and what is told of it.
-use Rattle.std.specs.Prelude.{◌≡◌, ◌≤◌, ◌⊎◌, ℕ, List, [], ◌++◌, take, Option, Some, None, codes, decimal}
+use Rattle.std.specs.Prelude.{◌≡◌, ◌⊎◌, ℕ, List, [], ◌++◌, Option, codes, decimal}
 use Rattle.hr_base.specs.Names.{IsChunkName, name_text}
+use Rattle.hr_edges.specs.Edges.{Takes, TakesFront}
 use Rattle.hotrestart_cli.specs.declared.ended.Ended.{Ended}
 use Rattle.hotrestart_cli.specs.declared.ended.Ended.TheVariants.{Whole, Words, TooLong, Line, Input, Sink, Disk, NotBuilt, Memory}
 
@@ -27,21 +28,6 @@ last_line Sink = []
 last_line Disk = codes "refused disk\n"
 last_line (NotBuilt name) = codes "refused not-built " ++ name_text name ++ codes "\n"
 last_line Memory = codes "refused memory\n"
-
--- the sink took these bytes, where it tells what it takes
-abbrev pub Takes : Option (List ℕ) → Option (List ℕ) → List ℕ → Type 0
-Takes None new bytes = Unit {0}
-Takes (Some old) new bytes = new ≡ Some (old ++ bytes)
-
--- the sink took a front of these bytes
-abbrev pub TakesFront : Option (List ℕ) → Option (List ℕ) → List ℕ → Type 0
-TakesFront None new bytes = Unit {0}
-TakesFront (Some old) new bytes = (n : ℕ) × (new ≡ Some (old ++ take n bytes))
-
--- the sink took a front of these bytes that has at least so many
-abbrev pub TakesAtLeast : ℕ → Option (List ℕ) → Option (List ℕ) → List ℕ → Type 0
-TakesAtLeast least None new bytes = Unit {0}
-TakesAtLeast least (Some old) new bytes = (n : ℕ) × (least ≤ n) × (new ≡ Some (old ++ take n bytes))
 
 -- How the status and the last line tell the end: as they should; or that there was no memory to tell it; or the sink
 -- failed meanwhile, with a front of the last line taken.
