@@ -26,7 +26,7 @@ digit_value c = if nat_lt c 58 then c - 48 else c - 55
 abbrev pub bytes_of : List ℕ → List ℕ
 bytes_of [] = []
 bytes_of (a ∷ []) = if a == 37 then [] else a ∷ []
-bytes_of (a ∷ b ∷ []) = a ∷ b ∷ []
+bytes_of (a ∷ b ∷ []) = a ∷ bytes_of (b ∷ [])
 bytes_of (a ∷ b ∷ c ∷ rest) = if a == 37 then (digit_value b * 16 + digit_value c) ∷ bytes_of rest else a ∷ bytes_of (b ∷ c ∷ rest)
 
 -- the bytes that a key or a value in a line stands for
@@ -41,6 +41,7 @@ pub record IsWord (word : Word) : Type 0 where
 
 -- the front of a text that stands for one byte, and the rest of it
 pub record IsByteAndRest (text : List ℕ) (byte : ℕ) (rest : List ℕ) : Type 0 where
+  pub small : byte < 256
   pub spelled : text ≡ byte_text byte ++ rest
   pub shorter : length rest < length text
 

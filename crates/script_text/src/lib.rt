@@ -8,6 +8,8 @@ mod print;
 mod read;
 mod reply;
 mod script;
+#[cfg(test)]
+mod tests;
 mod text;
 
 pub use laws::{

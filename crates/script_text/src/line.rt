@@ -15,7 +15,7 @@ pub enum Mode {
 }
 
 /// One line of a script.
-#[derive(Debug, Drop)]
+#[derive(Debug, PartialEq, Eq, Drop)]
 pub enum Line {
     /// Gives a key a value.
     Put {

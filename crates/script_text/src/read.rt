@@ -71,9 +71,9 @@ fn read_put(arguments: &[u8]) -> Option<(u64, Word<'_>, Word<'_>)>
 {
     let (field, words) = cut_at(arguments, b' ')?;
     let prefix = read_number(field)?;
-    let (key, value) = cut_at(words, b' ')?;
-    let key = read_word(key, MAX_KEY_LEN)?;
-    let value = read_word(value, MAX_VALUE_LEN)?;
+    let (key_text, value_text) = cut_at(words, b' ')?;
+    let key = read_word(key_text, MAX_KEY_LEN)?;
+    let value = read_word(value_text, MAX_VALUE_LEN)?;
     Some((prefix, key, value))
 }
 
@@ -83,9 +83,9 @@ fn read_key(arguments: &[u8]) -> Option<(u64, Word<'_>)>
     ensures none { IfNone result
         ((prefix : ℕ) (key : List ℕ) → IsKeyText arguments.now prefix key → ⊥) }
 {
-    let (field, key) = cut_at(arguments, b' ')?;
+    let (field, key_text) = cut_at(arguments, b' ')?;
     let prefix = read_number(field)?;
-    let key = read_word(key, MAX_KEY_LEN)?;
+    let key = read_word(key_text, MAX_KEY_LEN)?;
     Some((prefix, key))
 }
 

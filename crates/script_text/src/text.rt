@@ -1,6 +1,6 @@
 //! The text form of keys and values.
 
-ghost use Rattle.std.specs.Prelude.{◌≡◌, ◌≤◌, ◌<◌, ◌*◌, ◌+◌, ◌++◌, ◌↔◌, ℕ, All, IfNone, IfOk, IfSome, List, OnOk, length, take};
+ghost use Rattle.std.specs.Prelude.{◌≡◌, ◌≤◌, ◌<◌, ◌*◌, ◌+◌, ◌++◌, ◌↔◌, ℕ, All, IfNone, IfOk, IfSome, IsTrue, List, OnOk, codes, length, take};
 ghost use Rattle.std.specs.List.{flat_map};
 ghost use Rattle.script_text.specs.Fields.{IsByteAndRest, IsWord, bytes_of, word_bytes};
 ghost use Rattle.script_text.specs.Texts.{IsByteString, byte_text, is_plain, text_of, upper_digit};
@@ -22,7 +22,7 @@ pub(crate) fn read_word(field: &[u8], limit: usize) -> Option<Word<'_>>
     ensures none { IfNone result
         ((bytes : List ℕ) → IsByteString limit bytes → field.now ≡ text_of bytes → ⊥) }
 {
-    if field == b"%".as_slice() {
+    if is_lone_percent(field) {
         return Some(Word {
             text: field,
             length: 0,
@@ -39,6 +39,13 @@ pub(crate) fn read_word(field: &[u8], limit: usize) -> Option<Word<'_>>
     }
 }
 
+// Whether a field is the text of no bytes.
+fn is_lone_percent(field: &[u8]) -> bool
+    ensures { IsTrue result ↔ (field.now ≡ codes "%") }
+{
+    field == b"%".as_slice()
+}
+
 // How many bytes a text without a lone percent sign stands for.
 fn count_bytes(text: &[u8]) -> Option<usize>
     ensures found { IfSome result (λ n. All (λ b. b < 256) (bytes_of text.now)
@@ -49,9 +56,8 @@ fn count_bytes(text: &[u8]) -> Option<usize>
     let mut count = 0;
     let mut rest = text;
     while !rest.is_empty() {
-        let (_byte, after) = first_byte(rest)?;
+        rest = first_byte(rest)?.1;
         count += 1;
-        rest = after;
     }
     Some(count)
 }
@@ -145,13 +151,20 @@ pub(crate) fn append_text(out: &mut Vec<u8>, bytes: &[u8]) -> Result<(), AllocEr
         out.push(b'%')?;
         return Ok(());
     }
-    if bytes.iter().all(|b| is_plain(*b)) {
+    if are_plain(bytes) {
         return out.extend_from_slice(bytes);
     }
     for byte in bytes {
         append_byte(out, *byte)?;
     }
     Ok(())
+}
+
+// Whether each byte stands for itself.
+fn are_plain(bytes: &[u8]) -> bool
+    ensures { IsTrue result ↔ All (λ b. IsTrue (is_plain b)) bytes.now }
+{
+    bytes.iter().all(|b| is_plain(*b))
 }
 
 // Appends the text of one byte. What was there before stays.

@@ -1,7 +1,7 @@
 use Rattle.std.proofs.Common.{ap, ◌∙◌}
 use Rattle.script_text.specs.Lines.{texts_of}
 use Rattle.script_text.proofs.Texts.{texts_of-cut, texts_of-last}
-use Rattle.script_text.proofs.line.first_text.Goals as goal
+use Rattle.script_text.proofs.script.first_text.Goals as goal
 
 pub returns-in-Some-clause-split : goal.returns-in-Some-clause-split
 returns-in-Some-clause-split c =
