@@ -5,9 +5,10 @@ ghost use Rattle.hr_base.specs.declared.name.ChunkName.{ChunkName};
 ghost use Rattle.hr_base.specs.Counts.{Rose};
 ghost use Rattle.hotrestart_cli.specs.declared.ended.Ended.{Ended};
 ghost use Rattle.hotrestart_cli.specs.Words.{is_play};
-ghost use Rattle.hotrestart_cli.specs.Reading.{IsRead};
-ghost use Rattle.hotrestart_cli.specs.NameOrder.{IsFirstHeld};
-ghost use Rattle.hotrestart_cli.specs.Folders.{Because, IsCalm, IsFit, IsUnfit, Served, WasDone, WasRefused, WasNotBuilt};
+ghost use Rattle.hr_edges.specs.Edges.{IsRead};
+ghost use Rattle.dir_files.specs.PortStates.{IsCalm};
+ghost use Rattle.hotrestart_cli.specs.Scripts.{IsFit, IsUnfit};
+ghost use Rattle.hotrestart_cli.specs.Folders.{Because, IsFirstHeld, Served, WasDone, WasRefused, WasNotBuilt};
 ghost use Rattle.hotrestart_cli.specs.Outcome.{IsTellable, IsEarly, CanRefuse, CanRefuseFolder};
 
 use crate::ended::Ended;
@@ -73,7 +74,8 @@ pub fn serve<F: Folder, S: Source, K: Sink>(
     // Status 0: the source was read to its end, the whole script was done, and its replies, all of them and nothing
     // else, were taken.
     ensures whole { result ≡ 0 → WasDone (S.left input.old) (K.taken out.old) (K.taken out.new) }
-    ensures ended { result ≡ 0 → IsRead (S.left input.old) (S.left input.new) }
+    // Statuses 0, 5 and 6: the source was read to its end; status 2 says itself how far it was read.
+    ensures ended { (result ≡ 0) ⊎ (result ≡ 5) ⊎ (result ≡ 6) → IsRead (S.left input.old) (S.left input.new) }
     // Status 1: exactly where the words are not those of the command. Nothing was touched.
     ensures words { result ≡ 1 ↔ (is_play words.now ≡ false) }
     ensures idle { result ≡ 1 → (folder.new ≡ folder.old) × (input.new ≡ input.old) × (out.new ≡ out.old) }

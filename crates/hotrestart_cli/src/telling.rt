@@ -4,7 +4,8 @@ ghost use Rattle.std.specs.Prelude.{◌≡◌, ◌≤◌, ◌⊎◌, ◌++◌, [
 ghost use Rattle.hr_base.specs.Names.{IsChunkName, name_text};
 ghost use Rattle.hr_base.specs.Counts.{Rose};
 ghost use Rattle.hotrestart_cli.specs.declared.ended.Ended.{Ended};
-ghost use Rattle.hotrestart_cli.specs.Outcome.{Tells, IsTellable, last_line, status_of, Takes, TakesFront};
+ghost use Rattle.hr_edges.specs.Edges.{Takes, TakesFront};
+ghost use Rattle.hotrestart_cli.specs.Outcome.{Tells, IsTellable, last_line, status_of};
 
 use crate::ended::Ended;
 use crate::output::write_all;
