@@ -1,6 +1,6 @@
-mod CommandLaws
-mod CrashLaws
-mod DecidingLaws
-mod RestartLaws
+mod CloseLaws
+mod LimitLaws
+mod NumberLaws
+mod OneChunkLaws
 mod StandingLaws
 mod StoredLaws
