@@ -12,7 +12,7 @@ use Rattle.dir_files.specs.Ports.{Port}
 use Rattle.record_format.specs.declared.record.Record.{Record}
 use Rattle.record_format.specs.Spelling.{spelling, spellings}
 use Rattle.record_format.specs.Splits.{IsOfClass}
-use Rattle.record_format.specs.Laws.{spelling_fills}
+use Rattle.record_format.proofs.SplitLaws.{spelling_fills}
 use Rattle.crash_law.specs.Accounts.{Account, synced}
 use Rattle.crash_law.specs.Crashes.{Recovers, PartSurvives}
 use Rattle.crash_law.specs.Numbered.{Rising}

@@ -15,7 +15,7 @@ use Rattle.dir_files.specs.Images.{Image, MayLeave, KeepsFront}
 use Rattle.record_format.specs.declared.record.Record.{Record}
 use Rattle.record_format.specs.Spelling.{seq_of, spellings}
 use Rattle.record_format.specs.Splits.{Splits, IsTorn}
-use Rattle.record_format.specs.Laws.{one_split}
+use Rattle.record_format.proofs.SplitLaws.{one_split}
 use Rattle.crash_law.specs.Accounts.{Account, Fits}
 use Rattle.crash_law.specs.Chunks.{IsChunk, LeavesFront}
 use Rattle.crash_law.specs.Commands.{Command, command_of, touches, state_of, state_after_all, maps_after_all}

@@ -9,7 +9,7 @@ use Rattle.hr_base.specs.Entries.{Entries}
 use Rattle.record_format.specs.declared.record.Record.{Record}
 use Rattle.record_format.specs.Spelling.{seq_of, spelling, spellings}
 use Rattle.record_format.specs.Splits.{IsOfClass, Splits}
-use Rattle.record_format.specs.Laws.{spelling_fills, whole_spellings_split}
+use Rattle.record_format.proofs.SplitLaws.{spelling_fills, whole_spellings_split}
 use Rattle.crash_law.specs.Accounts.{Account, fresh_account, answered, refused, synced}
 use Rattle.crash_law.specs.Commands.{Command, Put, command_of, maps_after, maps_after_all}
 use Rattle.crash_law.specs.Numbered.{Rising, commands_of}

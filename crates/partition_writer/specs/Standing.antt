@@ -5,7 +5,6 @@ use Rattle.hr_base.specs.declared.name.Class.TheVariants.{Value as Values}
 use Rattle.hr_base.specs.declared.name.ChunkName.{ChunkName}
 use Rattle.hr_base.specs.Names.{class_of_kind}
 use Rattle.hr_base.specs.Entries.{Entries, key_at, content_of}
-use Rattle.dir_files.specs.Ports.{Port}
 use Rattle.record_format.specs.declared.record.Record.{Record}
 use Rattle.record_format.specs.declared.record.Record.TheVariants.{Value}
 use Rattle.record_format.specs.Spelling.{seq_of, spellings}
@@ -107,9 +106,3 @@ pub record IsWhole (s : Standing) (r : Record) : Type 0 where
 -- the record of each command of the tail is whole in the writer's files
 abbrev pub HoldsTail : Standing → Type 0
 HoldsTail s = (r : Record) → Contains s.records r → IsWhole s r
-
--- nothing is lent or foreign at the port, and nothing is gone
-pub record IsGivenBack (port : Port) : Type 0 where
-  pub lent : (name : ChunkName) → port.lent name ≡ false
-  pub foreign : (name : ChunkName) → port.foreign name ≡ false
-  pub gone : (name : ChunkName) → port.gone name ≡ None

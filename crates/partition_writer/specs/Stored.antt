@@ -9,10 +9,6 @@ use Rattle.dir_files.specs.Ports.{Port}
 abbrev pub first_chunk : ChunkName
 first_chunk = record { partition = record { 0 = 0 }; kind = V; number = record { 0 = 1 } }
 
--- whether no file of the name is here and no handle of it is known here
-abbrev pub is_free : Port → ChunkName → Bool
-is_free port name = not (is_some (port.held name)) && (not (is_some (port.gone name)) && (not (port.lent name) && not (port.foreign name)))
-
 -- a handle, as its name and its file
 pub record Handle : Type 0 where
   pub name : Option ChunkName

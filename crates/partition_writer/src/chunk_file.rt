@@ -3,7 +3,8 @@
 ghost use Rattle.std.specs.Prelude.{◌≡◌, true, false, Some, is_none};
 ghost use Rattle.dir_files.specs.declared.folder.FolderRefusal.{FolderRefusal};
 ghost use Rattle.dir_files.specs.Ports.{IsEmptyPort};
-ghost use Rattle.partition_writer.specs.Stored.{first_chunk, is_free};
+ghost use Rattle.dir_files.specs.Ports.{is_free};
+ghost use Rattle.partition_writer.specs.Stored.{first_chunk};
 
 use dir_files::{Folder, FolderRefusal};
 use hr_base::{ChunkName, ChunkNo, Kind, Partition};

@@ -70,7 +70,8 @@ impl<F: Folder> Writer<F> {
     ghost use Rattle.crash_law.specs.Crashes.{PartSurvives};
     ghost use Rattle.partition_writer.specs.Disk.{HaltsAtFault};
     ghost use Rattle.partition_writer.specs.Stored.{first_chunk, IsIdle, KeepsStored, StoresMore, StoresFront, IsDurable};
-    ghost use Rattle.partition_writer.specs.Standing.{disk_of, StandsFor, Writes, Puts, LosesPut, KeepsRecords, Syncs, HoldsTail, IsGivenBack};
+    ghost use Rattle.partition_writer.specs.Standing.{disk_of, StandsFor, Writes, Puts, LosesPut, KeepsRecords, Syncs, HoldsTail};
+    ghost use Rattle.dir_files.specs.PortStates.{IsGivenBack};
     ghost use Rattle.partition_writer.specs.WriterViews.{chunk_of, standing};
 
     /// A writer without maps and files. It takes no memory.

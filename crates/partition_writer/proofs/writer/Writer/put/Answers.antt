@@ -1,5 +1,5 @@
 use Rattle.std.proofs.Common.{◌≡◌, ◌∙◌, List, ℕ, ap, rules, arith}
-use Rattle.record_format.specs.Laws.{spelling_length}
+use Rattle.record_format.proofs.SplitLaws.{spelling_length}
 use Rattle.partition_writer.specs.Standing.{put_record}
 use Rattle.partition_writer.proofs.LimitLaws.{put_limits}
 use Rattle.partition_writer.proofs.StandingLaws.{stand_put, stand_lost, stand_kept, holds_tail}
