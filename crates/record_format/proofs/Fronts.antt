@@ -10,7 +10,6 @@ use Rattle.hr_base.specs.declared.name.Class.TheVariants.{Value as Values, Tomb 
 use Rattle.hr_base.specs.declared.limits.TheConstants.{MAX_KEY_LEN, MAX_VALUE_LEN, SEQ_END}
 use Rattle.hr_base.specs.Records.{header_length, record_length, IsSeq}
 use Rattle.record_format.specs.declared.record.Record.{Record}
-use Rattle.record_format.specs.declared.record.Record.TheVariants.{Value, Tomb, Clear}
 use Rattle.record_format.specs.Spelling.{IsRecord, class_of_record, spelling}
 use Rattle.record_format.specs.Headers.{header_seq, header_prefix, header_key, header_value}
 use Rattle.record_format.specs.Splits.{IsOfClass, SpellsNone}

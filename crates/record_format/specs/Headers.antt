@@ -1,5 +1,6 @@
 -- What the header of a record of the class says, where the bytes have all of it.
-use Rattle.std.specs.Prelude.{◌≡◌, ℕ, ◌≤◌, List, length, take, drop}
+use Rattle.std.specs.Prelude.{◌≡◌, ℕ, ◌<◌, ◌≤◌, List, Option, MatchOption, length, take, drop}
+use Rattle.std.specs.Borrow.{Bor}
 use Rattle.std.specs.Int.{w32, w64, from_be_bytes}
 use Rattle.hr_base.specs.declared.name.Class.{Class}
 use Rattle.hr_base.specs.declared.name.Class.TheVariants.{Value, Tomb, Clear}
@@ -38,3 +39,7 @@ pub record IsHeader (class : Class) (bytes : List ℕ) (header : Header) (body :
   pub key_len : header.key_len ≡ header_key class bytes
   pub value_len : header.value_len ≡ header_value class bytes
   pub behind : body ≡ drop (header_length class) bytes
+
+-- the header that was read and the bytes behind it, or nothing where the header is not complete
+abbrev pub ReadsHeader : Class → List ℕ → Option (Header × Bor (List ℕ)) → Type 0
+ReadsHeader class bytes read = MatchOption read (length bytes < header_length class) (λ x. IsHeader class bytes x.0 x.1.now)

@@ -34,7 +34,7 @@ pub record KeepsLimits (seq key value : ℕ) : Type 0 where
   pub key_fits : key ≤ MAX_KEY_LEN
   pub value_fits : value ≤ MAX_VALUE_LEN
 
--- no record may have them, and this is the first that is wrong
+-- no record may have them, and this is the first of them that is wrong
 abbrev pub IsFirstFlaw : (seq key value : ℕ) → Flaw → Type 0
 IsFirstFlaw seq key value (Number n) = (n ≡ seq) × ((n ≡ 0) ⊎ (SEQ_END ≤ n))
 IsFirstFlaw seq key value (KeyLength n) = IsSeq seq × (n ≡ key) × (MAX_KEY_LEN < n)

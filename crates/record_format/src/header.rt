@@ -1,9 +1,7 @@
 //! What stands before a record's key. The layout is stated in `docs/FORMATS.md`.
 
-ghost use Rattle.std.specs.Prelude.{◌<◌, length, MatchOption};
 ghost use Rattle.hr_base.specs.declared.name.Class.TheVariants.{Value, Tomb, Clear};
-ghost use Rattle.hr_base.specs.Records.{header_length};
-ghost use Rattle.record_format.specs.Headers.{IsHeader};
+ghost use Rattle.record_format.specs.Headers.{ReadsHeader};
 
 use hr_base::Class;
 
@@ -18,8 +16,7 @@ pub(crate) struct Header {
 
 // The header that the bytes begin with, and the bytes behind it.
 pub(crate) fn read_header(bytes: &[u8], class: Class) -> Option<(Header, &[u8])>
-    ensures { MatchOption result (length bytes.now < header_length class)
-        (λ x. IsHeader class bytes.now x.0 x.1.now) }
+    ensures { ReadsHeader class bytes.now result }
 {
     match class {
         Class::Value => read_value_header(bytes),
@@ -29,8 +26,7 @@ pub(crate) fn read_header(bytes: &[u8], class: Class) -> Option<(Header, &[u8])>
 }
 
 fn read_value_header(bytes: &[u8]) -> Option<(Header, &[u8])>
-    ensures { MatchOption result (length bytes.now < header_length Value)
-        (λ x. IsHeader Value bytes.now x.0 x.1.now) }
+    ensures { ReadsHeader Value bytes.now result }
 {
     let (seq, rest) = bytes.split_first_chunk::<8>()?;
     let (prefix, rest) = rest.split_first_chunk::<8>()?;
@@ -46,8 +42,7 @@ fn read_value_header(bytes: &[u8]) -> Option<(Header, &[u8])>
 }
 
 fn read_tomb_header(bytes: &[u8]) -> Option<(Header, &[u8])>
-    ensures { MatchOption result (length bytes.now < header_length Tomb)
-        (λ x. IsHeader Tomb bytes.now x.0 x.1.now) }
+    ensures { ReadsHeader Tomb bytes.now result }
 {
     let (seq, rest) = bytes.split_first_chunk::<8>()?;
     let (prefix, rest) = rest.split_first_chunk::<8>()?;
@@ -62,8 +57,7 @@ fn read_tomb_header(bytes: &[u8]) -> Option<(Header, &[u8])>
 }
 
 fn read_clear_header(bytes: &[u8]) -> Option<(Header, &[u8])>
-    ensures { MatchOption result (length bytes.now < header_length Clear)
-        (λ x. IsHeader Clear bytes.now x.0 x.1.now) }
+    ensures { ReadsHeader Clear bytes.now result }
 {
     let (prefix, rest) = bytes.split_first_chunk::<8>()?;
     let (seq, rest) = rest.split_first_chunk::<8>()?;

@@ -1,10 +1,10 @@
 //! What bytes begin with. The layout is stated in `docs/FORMATS.md`.
 
-ghost use Rattle.std.specs.Prelude.{◌≡◌, ◌+◌, ◌<◌, ◌≤◌, ◌++◌, ◌↔◌, List, ℕ, IfNone, IfSome, drop, length};
+ghost use Rattle.std.specs.Prelude.{◌≡◌, ◌↔◌, ◌<◌, ◌≤◌, ◌++◌, ℕ, List, IfNone, IfSome, drop, length};
 ghost use Rattle.record_format.specs.declared.record.Record.{Record};
 ghost use Rattle.record_format.specs.Spelling.{spelling};
 ghost use Rattle.record_format.specs.Splits.{IsDamaged, IsOfClass, IsTorn, SpellsNone};
-ghost use Rattle.record_format.specs.Steps.{IfWhole, IsFirstFlaw, SaysDamaged, IsStep, KeepsLimits, Shows, record_of, record_with};
+ghost use Rattle.record_format.specs.Steps.{IfWhole, IsFirstFlaw, IsStep, KeepsLimits, SaysDamaged, Shows, record_of, record_with};
 
 use crate::header::{Header, read_header};
 use hr_base::{Class, MAX_KEY_LEN, MAX_VALUE_LEN, SEQ_END, Seq};
@@ -55,7 +55,7 @@ pub enum Step<'a> {
     Damaged(Flaw),
 }
 
-/// What the bytes of a chunk of this class begin with, from the place of a record on.
+/// What the bytes of a chunk file of this class begin with, from a place where a record may begin.
 pub fn decode<'a>(bytes: &'a [u8], class: Class) -> Step<'a>
     ensures step { IsStep class bytes.now result }
     ensures bound { IfWhole result (λ view count. (0 < count) × (count ≤ length bytes.now)) }

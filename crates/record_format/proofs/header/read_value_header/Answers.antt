@@ -1,4 +1,4 @@
-use Rattle.std.proofs.Common.{rules, arith, ◌≡◌, ap, ◌∙◌, take, drop}
+use Rattle.std.proofs.Common.{rules, arith, ap, ◌∙◌, take}
 use Rattle.std.specs.Int.{w32, from_be_bytes}
 use Rattle.record_format.proofs.HeaderLaws.{drop_behind}
 use Rattle.record_format.proofs.header.read_value_header.Goals as goal
