@@ -263,6 +263,15 @@ ended_of_text (BadLine number) lines count m before now t = absurd t
 ended_of_text Input lines count m before now t = absurd t
 ended_of_text (NotBuilt name) lines count m before now t = absurd t
 
+-- lines that were played end as a session can
+pub ended_of_played : (tells : Bool) (lines : List Line) (s t : Standing) (before now : Option (List ℕ)) (ended : Ended) → Played tells lines s t before now ended → IsSessionEnd ended
+ended_of_played tells lines s t before now ended p = ended_of_text ended lines p.count (λ _. s.maps) before now (p.text (λ _. s.maps) refl)
+
+-- and not at a chunk file
+pub played_not_built : (tells : Bool) (lines : List Line) (s t : Standing) (before now : Option (List ℕ)) (ended : Ended) → Played tells lines s t before now ended → (name : ChunkName) → ended ≡ NotBuilt name → ⊥
+played_not_built tells lines s t before now ended p name e =
+    subst (λ (x : Ended). TextAt x lines p.count (λ _. s.maps) before now) e (p.text (λ _. s.maps) refl)
+
 pub because_played : (tells play : Bool) (left rest : Option (List ℕ)) (old new : Port) (before mid : Option (List ℕ)) (ended : Ended)
     → play ≡ true → IsSessionEnd ended → RanScript tells left rest old new before mid ended → Because tells play left rest old new before mid ended
 because_played tells play left rest old new before mid Whole y end ran = (y, ran)

@@ -2,6 +2,7 @@
 use Rattle.std.proofs.Common.{◌≡◌, ◌⊎◌, ℕ, ◌≤◌, Bool, true, List, Option, Some, None, IsSome, refl, arith, inl, inr, subst}
 use Rattle.script_text.specs.declared.line.Line.{Line}
 use Rattle.hr_base.specs.Counts.{Rose}
+use Rattle.hr_edges.specs.Edges.{IsRead}
 use Rattle.hr_base.specs.declared.name.ChunkName.{ChunkName}
 use Rattle.dir_files.specs.Files.{FileState}
 use Rattle.dir_files.specs.Ports.{Port}
@@ -178,3 +179,28 @@ not_whole_by tells play left rest old new before mid ended name because e y h =
 -- and a folder without files is not refused for one
 pub not_refused : (port : Port) (before now : Option (List ℕ)) → ((name : ChunkName) → port.held name ≡ None) → WasNotBuilt port before now → ⊥
 not_refused port before now none w = nothing_held (port.held w.name) (none w.name) w.first.held
+
+-- ---- how far the script was read
+
+abbrev IsAfterScript : ℕ → Type 0
+IsAfterScript status = (status ≡ 0) ⊎ (status ≡ 5) ⊎ (status ≡ 6)
+
+read_by : (tells play : Bool) (left rest : Option (List ℕ)) (old new : Port) (before mid : Option (List ℕ)) (ended : Ended)
+    → Because tells play left rest old new before mid ended → IsAfterScript (status_of ended) → IsRead left rest
+read_by tells play left rest old new before mid Whole b h = b.1.read
+read_by tells play left rest old new before mid Disk b h = b.1.read
+read_by tells play left rest old new before mid (NotBuilt name) b h = b.1.read
+read_by tells play left rest old new before mid Words b h = elim h [ inl x ↦ cc | inr r ↦ elim r [ inl y ↦ cc | inr z ↦ cc ] ]
+read_by tells play left rest old new before mid TooLong b h = elim h [ inl x ↦ cc | inr r ↦ elim r [ inl y ↦ cc | inr z ↦ cc ] ]
+read_by tells play left rest old new before mid (BadLine number) b h = b.2
+read_by tells play left rest old new before mid Input b h = elim h [ inl x ↦ cc | inr r ↦ elim r [ inl y ↦ cc | inr z ↦ cc ] ]
+read_by tells play left rest old new before mid Sink b h = b.1.read
+read_by tells play left rest old new before mid Memory b h = elim h [ inl x ↦ cc | inr r ↦ elim r [ inl y ↦ cc | inr z ↦ cc ] ]
+
+-- a script that was played, or refused by the folder, was read to its end
+pub read_told : (tells play : Bool) (left rest : Option (List ℕ)) (old new : Port) (before mid now : Option (List ℕ)) (ended : Ended) (status : ℕ)
+    → Because tells play left rest old new before mid ended → Tells ended status mid now → IsAfterScript status → IsRead left rest
+read_told tells play left rest old new before mid now ended _ b (told t) h = read_by tells play left rest old new before mid ended b h
+read_told tells play left rest old new before mid now ended _ b (no_memory t) h = elim h [ inl x ↦ cc | inr r ↦ elim r [ inl y ↦ cc | inr z ↦ cc ] ]
+read_told tells play left rest old new before mid now ended _ b (not_taken t) h = elim h [ inl x ↦ cc | inr r ↦ elim r [ inl y ↦ cc | inr z ↦ cc ] ]
+read_told tells play left rest old new before mid now ended _ b (nothing_taken t) h = elim h [ inl x ↦ cc | inr r ↦ elim r [ inl y ↦ cc | inr z ↦ cc ] ]

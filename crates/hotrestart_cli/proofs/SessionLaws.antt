@@ -53,7 +53,25 @@ module _ (lines : List Line) (i : ℕ) (line : Line) (within : i < length lines)
 
 -- a larger bound serves too
 pub StandsFor-more : (s : Standing) (a : Account) (size more : ℕ) → StandsFor s a size → size ≤ more → StandsFor s a more
-StandsFor-more s a size more h fits = record h { within = omega (arith, h.within, fits) }
+StandsFor-more s a size more h fits = record {
+  durable = h.durable;
+  kept = h.kept;
+  lost = h.lost;
+  missing = h.missing;
+  records = h.records;
+  one_lost = h.one_lost;
+  lost_halts = h.lost_halts;
+  maps = h.maps;
+  tail = h.tail;
+  durable_maps = h.durable_maps;
+  kept_maps = h.kept_maps;
+  valid = h.valid;
+  rising = h.rising;
+  below = h.below;
+  within = omega (arith, h.within, fits);
+  stores = h.stores;
+  whole = h.whole;
+}
 
 -- the line at this place, which is of the one partition
 module _ (lines : List Line) (i : ℕ) (line : Line) (within : i < length lines) (is : line ≡ slice_index_or lines i line) (of : partition_of line ≡ 0) where
@@ -101,7 +119,7 @@ SoFar-none tells lines s before running = record {
   text = λ m e. Takes-nothing before;
   running = running;
   numbers = omega arith;
-  account = λ t a size h. StandsFor-more s a size _ h (omega arith);
+  account = λ t a size h. StandsFor-more s (a 0) size _ h (omega arith);
 }
 
 -- ---- how a session ends
