@@ -1,9 +1,10 @@
 -- Texts of bytes, one byte after another.
-use Rattle.std.proofs.Common.{◌≡◌, ◌<◌, ◌≤◌, ◌+◌, ◌/◌, ◌%◌, ℕ, true, List, [], ◌∷◌, ◌++◌, All, length, refl, sym, ap, ◌∙◌, arith, append_assoc, length-append, inl, inr, get_or}
+use Rattle.std.proofs.Common.{◌≡◌, ◌<◌, ◌≤◌, ◌+◌, ◌/◌, ◌%◌, ℕ, true, List, [], ◌∷◌, ◌++◌, All, length, refl, sym, ap, ◌∙◌, subst, arith, append_assoc, length-append, inl, inr, get_or}
 use Rattle.std.specs.List.{flat_map}
 use Rattle.std.proofs.lemmas.Bool.{cases_Bool}
+use Rattle.std.proofs.lemmas.Bool.Decides.{nat_tests}
 use Rattle.std.proofs.lemmas.List.{append-nil, flat_map_more}
-use Rattle.std.proofs.lemmas.List.Elements.{All-head, All-tail}
+use Rattle.std.proofs.lemmas.List.Elements.{All-head, All-tail, All-weaker}
 use Rattle.script_text.specs.Fields.{bytes_of}
 use Rattle.script_text.specs.Texts.{byte_text, is_plain, text_of, upper_digit}
 use Rattle.script_text.proofs.ByteTexts.{byte_text-plain, byte_text-escaped, bytes_of-byte_text, bytes_of-spelled}
@@ -94,3 +95,14 @@ text_none field (b ∷ bytes) some none small e = none (b ∷ bytes) small e
 pub text_some : (field bytes : List ℕ) → (field ≡ 37 ∷ [] → ⊥) → field ≡ text_of bytes → 0 < length bytes
 text_some field [] some e = absurd (some e)
 text_some field (b ∷ bytes) some e = omega arith
+
+plain_small : (b : ℕ) → is_plain b ≡ true → b < 256
+plain_small b plain = grind (arith, nat_tests)
+
+-- bytes that each stand for themselves are their own text
+pub plain_whole : (text : List ℕ) → All (λ b. is_plain b ≡ true) text → All (λ b. b < 256) (bytes_of text) × (text ≡ flat_map byte_text (bytes_of text)) × (length text ≡ length (bytes_of text))
+plain_whole text plain =
+    let small = All-weaker (λ b. is_plain b ≡ true) (λ b. b < 256) plain_small text plain in
+    let spelled = spelled_plain text plain in
+    let same : bytes_of text ≡ text = ap bytes_of (sym spelled) ∙ bytes_of-spelled text small in
+    (subst (All (λ b. b < 256)) (sym same) small, sym spelled ∙ ap (flat_map byte_text) (sym same), ap length (sym same))

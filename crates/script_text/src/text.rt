@@ -53,6 +53,9 @@ fn count_bytes(text: &[u8]) -> Option<usize>
     ensures none { IfNone result
         ((bytes : List ℕ) → All (λ b. b < 256) bytes → text.now ≡ flat_map byte_text bytes → ⊥) }
 {
+    if are_plain(text) {
+        return Some(text.len());
+    }
     let mut count = 0;
     let mut rest = text;
     while !rest.is_empty() {
