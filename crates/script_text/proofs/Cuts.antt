@@ -31,11 +31,11 @@ IsCut-one byte bytes a b c d cut lacking e = cut_one byte a c b d cut.lacking la
 pub IsCut-first : (byte : ℕ) (bytes : List ℕ) (k : ℕ) → NoneBefore (Passes (is_byte byte) bytes) 0 (length bytes) k → Passes (is_byte byte) bytes k → IsCut byte bytes (take k bytes) (drop (k + 1) bytes)
 IsCut-first byte bytes k first here = record {
   joined =
-    let place : k < length bytes = first.high in
-    let same : get_or bytes k 0 ≡ byte = eqb-true (get_or bytes k 0) byte here in
-    sym (take-append-drop k bytes) ∙ ap (λ t. take k bytes ++ t) (drop-cons bytes k 0 place ∙ ap (λ b. b ∷ drop (suc k) bytes) same ∙ ap (λ n. byte ∷ drop n bytes) (sym (add-one k)));
+      let place : k < length bytes = first.high in
+      let same : get_or bytes k 0 ≡ byte = eqb-true (get_or bytes k 0) byte here in
+      sym (take-append-drop k bytes) ∙ ap (λ t. take k bytes ++ t) (drop-cons bytes k 0 place ∙ ap (λ b. b ∷ drop (suc k) bytes) same ∙ ap (λ n. byte ∷ drop n bytes) (sym (add-one k)));
   lacking = All-from_get_or (λ b. b ≢ byte) (take k bytes) 0 (λ i h e.
-    let below : i < k = omega (arith, h, length-take k bytes) in
-    let same : get_or (take k bytes) i 0 ≡ get_or bytes i 0 = rw get_or-take in
-    first.before i (omega arith) below (eq-eqb (get_or bytes i 0) byte (sym same ∙ e)));
+      let below : i < k = omega (arith, h, length-take k bytes) in
+      let same : get_or (take k bytes) i 0 ≡ get_or bytes i 0 = rw get_or-take in
+      first.before i (omega arith) below (eq-eqb (get_or bytes i 0) byte (sym same ∙ e)));
 }

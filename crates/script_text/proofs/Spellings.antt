@@ -1,12 +1,12 @@
 -- Texts of bytes, one byte after another.
-use Rattle.std.proofs.Common.{◌≡◌, ◌<◌, ◌≤◌, ◌+◌, ◌/◌, ◌%◌, ℕ, true, List, [], ◌∷◌, ◌++◌, All, length, refl, sym, ap, ◌∙◌, subst, arith, append_assoc, length-append, inl, inr, get_or}
+use Rattle.std.proofs.Common.{◌≡◌, ◌<◌, ◌≤◌, ℕ, true, List, [], ◌∷◌, ◌++◌, All, length, refl, sym, ap, ◌∙◌, subst, arith, append_assoc, length-append, inl, inr, get_or}
 use Rattle.std.specs.List.{flat_map}
 use Rattle.std.proofs.lemmas.Bool.{cases_Bool}
 use Rattle.std.proofs.lemmas.Bool.Decides.{nat_tests}
 use Rattle.std.proofs.lemmas.List.{append-nil, flat_map_more}
 use Rattle.std.proofs.lemmas.List.Elements.{All-head, All-tail, All-weaker}
 use Rattle.script_text.specs.Fields.{bytes_of}
-use Rattle.script_text.specs.Texts.{byte_text, is_plain, text_of, upper_digit}
+use Rattle.script_text.specs.Texts.{byte_text, is_plain, text_of}
 use Rattle.script_text.proofs.ByteTexts.{byte_text-plain, byte_text-escaped, bytes_of-byte_text, bytes_of-spelled}
 
 -- a byte has one byte of text, or three
@@ -50,11 +50,11 @@ pub spelled_same : (bytes : List ℕ) → length (flat_map byte_text bytes) ≡ 
 spelled_same [] e = refl
 spelled_same (b ∷ bytes) e = elim (cases_Bool (is_plain b)) [
   | inl plain ↦
-    let one = byte_text-plain b plain in
-    let rest : length (flat_map byte_text bytes) ≡ length bytes = omega (arith, e, ap length one, length-append (byte_text b) (flat_map byte_text bytes)) in
-    ap (λ t. t ++ flat_map byte_text bytes) one ∙ ap (λ t. b ∷ t) (spelled_same bytes rest)
+      let one = byte_text-plain b plain in
+      let rest : length (flat_map byte_text bytes) ≡ length bytes = omega (arith, e, ap length one, length-append (byte_text b) (flat_map byte_text bytes)) in
+      ap (λ t. t ++ flat_map byte_text bytes) one ∙ ap (λ t. b ∷ t) (spelled_same bytes rest)
   | inr escaped ↦
-    absurd (omega (arith, e, ap length (byte_text-escaped b escaped), spelled_longer bytes, length-append (byte_text b) (flat_map byte_text bytes)))
+      absurd (omega (arith, e, ap length (byte_text-escaped b escaped), spelled_longer bytes, length-append (byte_text b) (flat_map byte_text bytes)))
 ]
 
 pub spelled_plain : (bytes : List ℕ) → All (λ b. is_plain b ≡ true) bytes → flat_map byte_text bytes ≡ bytes

@@ -73,11 +73,11 @@ fn first_byte(text: &[u8]) -> Option<(u8, &[u8])>
 {
     match text {
         [b'%', high, low, rest @ ..] => {
-            let byte = value_of_digit(*high)? * 16 + value_of_digit(*low)?;
-            if is_plain(byte) {
+            let escaped = value_of_digit(*high)? * 16 + value_of_digit(*low)?;
+            if is_plain(escaped) {
                 None
             } else {
-                Some((byte, rest))
+                Some((escaped, rest))
             }
         }
         [byte, rest @ ..] if is_plain(*byte) => Some((*byte, rest)),

@@ -1,4 +1,4 @@
-use Rattle.std.proofs.Common.{◌+◌, ◌≢◌, ◌∷◌, All, sym, length-drop, ap, ◌∙◌, take, drop, length, eq-eqb, get_or, arith}
+use Rattle.std.proofs.Common.{◌+◌, ◌≢◌, ◌∷◌, sym, length-drop, ap, ◌∙◌, take, drop, eq-eqb, get_or, arith}
 use Rattle.std.proofs.Math.Seq.{take-length}
 use Rattle.std.proofs.lemmas.List.Elements.{All-from_get_or}
 use Rattle.script_text.specs.Lines.{texts_of}

@@ -1,9 +1,7 @@
-use Rattle.std.proofs.Common.{refl, ◌<◌, ◌∷◌, ◌++◌, ◌==◌, [], ℕ, All, length, sym, ap, ◌∙◌, subst, arith}
-use Rattle.std.specs.List.{flat_map}
+use Rattle.std.proofs.Common.{refl, ◌<◌, ◌∷◌, ◌++◌, ◌==◌, [], length, sym, ap, ◌∙◌, arith}
 use Rattle.std.proofs.lemmas.Bool.{false≢true, eqb-true}
 use Rattle.std.proofs.lemmas.List.{length_push, nil_from_length}
 use Rattle.std.proofs.lemmas.List.Elements.{All-push}
-use Rattle.script_text.specs.Texts.{byte_text}
 use Rattle.script_text.proofs.Spellings.{plain_whole, spelled_more, spelled_none, spelled_rest, spelled_whole}
 use Rattle.script_text.proofs.text.count_bytes.Goals as goal
 
@@ -18,8 +16,7 @@ pub loop-rest-preserved : goal.loop-rest-preserved
 loop-rest-preserved c =
     let before = c.loop-rest.invariant in
     let byte = c.in_ok-rest.field-0.0 in
-    let found = c.in_ok-rest.ensures.found in
-    (
+    let found = c.in_ok-rest.ensures.found in (
       before.0 ++ byte ∷ [],
       All-push (λ b. b < 256) before.0 byte before.1 found.small,
       spelled_more c.args.text.now before.0 c.loop-rest.rest.now c.in_ok-rest.field-0.1.now byte before.2 found.spelled,
