@@ -1,5 +1,5 @@
 -- Lines printed and read again.
-use Rattle.std.proofs.Common.{◌≡◌, ◌≢◌, ◌<◌, ◌≤◌, ◌^◌, ◌==◌, ℕ, List, [], ◌∷◌, ◌++◌, All, map, length, cond, codes, decimal, refl, sym, ap, ◌∙◌, subst, arith, inl, inr}
+use Rattle.std.proofs.Common.{◌≡◌, ◌≢◌, ◌<◌, ◌≤◌, ◌^◌, ◌==◌, ℕ, List, [], ◌∷◌, ◌++◌, All, map, cond, codes, decimal, refl, sym, ap, ◌∙◌, subst, arith, inl, inr}
 use Rattle.std.specs.List.{flat_map}
 use Rattle.std.proofs.lemmas.Bool.{cases_eq, eqb-true, false_from_ne_true}
 use Rattle.std.proofs.lemmas.List.Elements.{All-cons, All-append, All-weaker}
@@ -96,17 +96,17 @@ ended-texts_of [] = refl
 ended-texts_of (b ∷ []) = elim (cases_eq b 10) [
   | inl e ↦ ap (λ n. ended (texts_of (n ∷ []))) e ∙ ap (λ n. with_last_end (n ∷ [])) (sym e)
   | inr other ↦
-    let test = false_from_ne_true (b == 10) (λ e. other (eqb-true b 10 e)) in
-    ap ended (texts_of-other b [] other) ∙ sym (ap (λ t. cond t (b ∷ []) (b ∷ 10 ∷ [])) test)
+      let test = false_from_ne_true (b == 10) (λ e. other (eqb-true b 10 e)) in
+      ap ended (texts_of-other b [] other) ∙ sym (ap (λ t. cond t (b ∷ []) (b ∷ 10 ∷ [])) test)
 ]
 ended-texts_of (b ∷ c ∷ bytes) =
     let rest = ended-texts_of (c ∷ bytes) in
     elim (cases_eq b 10) [
       | inl e ↦
-        ap (λ n. ended (texts_of (n ∷ c ∷ bytes))) e ∙ ap (λ t. 10 ∷ t) rest ∙ ap (λ n. n ∷ with_last_end (c ∷ bytes)) (sym e)
+          ap (λ n. ended (texts_of (n ∷ c ∷ bytes))) e ∙ ap (λ t. 10 ∷ t) rest ∙ ap (λ n. n ∷ with_last_end (c ∷ bytes)) (sym e)
       | inr other ↦
-        let found = texts_of-some c bytes in
-        ap ended (texts_of-other b (c ∷ bytes) other) ∙ ended-before b found.0 found.1 (texts_of (c ∷ bytes)) found.2 ∙ ap (λ t. b ∷ t) rest
+          let found = texts_of-some c bytes in
+          ap ended (texts_of-other b (c ∷ bytes) other) ∙ ended-before b found.0 found.1 (texts_of (c ∷ bytes)) found.2 ∙ ap (λ t. b ∷ t) rest
     ]
 
 lines_text-ended : (lines : List Line) → lines_text lines ≡ ended (map line_text lines)

@@ -1,11 +1,12 @@
 -- Texts of bytes, one byte after another.
-use Rattle.std.proofs.Common.{◌≡◌, ◌<◌, ◌≤◌, ◌+◌, ◌/◌, ◌%◌, ℕ, true, List, [], ◌∷◌, ◌++◌, All, length, refl, sym, ap, ◌∙◌, arith, append_assoc, length-append, inl, inr, get_or}
+use Rattle.std.proofs.Common.{◌≡◌, ◌<◌, ◌≤◌, ℕ, true, List, [], ◌∷◌, ◌++◌, All, length, refl, sym, ap, ◌∙◌, subst, arith, append_assoc, length-append, inl, inr, get_or}
 use Rattle.std.specs.List.{flat_map}
 use Rattle.std.proofs.lemmas.Bool.{cases_Bool}
+use Rattle.std.proofs.lemmas.Bool.Decides.{nat_tests}
 use Rattle.std.proofs.lemmas.List.{append-nil, flat_map_more}
-use Rattle.std.proofs.lemmas.List.Elements.{All-head, All-tail}
+use Rattle.std.proofs.lemmas.List.Elements.{All-head, All-tail, All-weaker}
 use Rattle.script_text.specs.Fields.{bytes_of}
-use Rattle.script_text.specs.Texts.{byte_text, is_plain, text_of, upper_digit}
+use Rattle.script_text.specs.Texts.{byte_text, is_plain, text_of}
 use Rattle.script_text.proofs.ByteTexts.{byte_text-plain, byte_text-escaped, bytes_of-byte_text, bytes_of-spelled}
 
 -- a byte has one byte of text, or three
@@ -49,11 +50,11 @@ pub spelled_same : (bytes : List ℕ) → length (flat_map byte_text bytes) ≡ 
 spelled_same [] e = refl
 spelled_same (b ∷ bytes) e = elim (cases_Bool (is_plain b)) [
   | inl plain ↦
-    let one = byte_text-plain b plain in
-    let rest : length (flat_map byte_text bytes) ≡ length bytes = omega (arith, e, ap length one, length-append (byte_text b) (flat_map byte_text bytes)) in
-    ap (λ t. t ++ flat_map byte_text bytes) one ∙ ap (λ t. b ∷ t) (spelled_same bytes rest)
+      let one = byte_text-plain b plain in
+      let rest : length (flat_map byte_text bytes) ≡ length bytes = omega (arith, e, ap length one, length-append (byte_text b) (flat_map byte_text bytes)) in
+      ap (λ t. t ++ flat_map byte_text bytes) one ∙ ap (λ t. b ∷ t) (spelled_same bytes rest)
   | inr escaped ↦
-    absurd (omega (arith, e, ap length (byte_text-escaped b escaped), spelled_longer bytes, length-append (byte_text b) (flat_map byte_text bytes)))
+      absurd (omega (arith, e, ap length (byte_text-escaped b escaped), spelled_longer bytes, length-append (byte_text b) (flat_map byte_text bytes)))
 ]
 
 pub spelled_plain : (bytes : List ℕ) → All (λ b. is_plain b ≡ true) bytes → flat_map byte_text bytes ≡ bytes
@@ -94,3 +95,14 @@ text_none field (b ∷ bytes) some none small e = none (b ∷ bytes) small e
 pub text_some : (field bytes : List ℕ) → (field ≡ 37 ∷ [] → ⊥) → field ≡ text_of bytes → 0 < length bytes
 text_some field [] some e = absurd (some e)
 text_some field (b ∷ bytes) some e = omega arith
+
+plain_small : (b : ℕ) → is_plain b ≡ true → b < 256
+plain_small b plain = grind (arith, nat_tests)
+
+-- bytes that each stand for themselves are their own text
+pub plain_whole : (text : List ℕ) → All (λ b. is_plain b ≡ true) text → All (λ b. b < 256) (bytes_of text) × (text ≡ flat_map byte_text (bytes_of text)) × (length text ≡ length (bytes_of text))
+plain_whole text plain =
+    let small = All-weaker (λ b. is_plain b ≡ true) (λ b. b < 256) plain_small text plain in
+    let spelled = spelled_plain text plain in
+    let same : bytes_of text ≡ text = ap bytes_of (sym spelled) ∙ bytes_of-spelled text small in
+    (subst (All (λ b. b < 256)) (sym same) small, sym spelled ∙ ap (flat_map byte_text) (sym same), ap length (sym same))

@@ -5,9 +5,9 @@ ghost use Rattle.hr_base.specs.LimitRanges.{IsPartitionCount};
 ghost use Rattle.script_text.specs.declared.line.Line.{Line};
 ghost use Rattle.script_text.specs.Lines.{IsScript, IsFirstBad, texts_of};
 
-use crate::fields::cut_at;
 use crate::line::{Line, Mode};
 use crate::read::{owned, read_line};
+use memchr::memchr;
 use std::alloc::Global;
 use std::marker::Model;
 use thiserror::Error;
@@ -92,8 +92,8 @@ fn first_text(bytes: &[u8]) -> (&[u8], &[u8])
     ensures split { texts_of bytes.now ≡ result.0.now ∷ texts_of result.1.now }
     ensures shorter { length result.1.now < length bytes.now }
 {
-    match cut_at(bytes, b'\n') {
-        Some(parts) => parts,
+    match memchr(b'\n', bytes) {
+        Some(end) => (&bytes[..end], &bytes[end + 1..]),
         None => (bytes, &[]),
     }
 }

@@ -106,8 +106,16 @@ fn reads_lines_in_order(rt: HostRuntime) -> Result<(), Fail> {
     let rows: [(&str, &[u8], usize); 4] = [
         ("nothing", b"", 0),
         ("one line", b"0 sync", 1),
-        ("a last line without its end", b"0 sync\n63 clear 9\n0 get 1 a", 3),
-        ("a last line with its end", b"0 sync\n63 clear 9\n0 get 1 a\n", 3),
+        (
+            "a last line without its end",
+            b"0 sync\n63 clear 9\n0 get 1 a",
+            3,
+        ),
+        (
+            "a last line with its end",
+            b"0 sync\n63 clear 9\n0 get 1 a\n",
+            3,
+        ),
     ];
     for (name, text, count) in rows {
         let script = read_script(rt.alloc(), text, Mode::Play, 64)?;
@@ -228,11 +236,21 @@ fn bounds_bytes_and_not_their_text(rt: HostRuntime) -> Result<(), Fail> {
         ("key too long, plain", b"k", MAX_KEY_LEN + 1, 1, Some(2)),
         ("key too long, escaped", b"%00", MAX_KEY_LEN + 1, 1, Some(2)),
         ("value too long, plain", b"k", 1, MAX_VALUE_LEN + 1, Some(2)),
-        ("value too long, escaped", b"%00", 1, MAX_VALUE_LEN + 1, Some(2)),
+        (
+            "value too long, escaped",
+            b"%00",
+            1,
+            MAX_VALUE_LEN + 1,
+            Some(2),
+        ),
     ];
     for (name, piece, key, value, refused) in rows {
         let text = long_put(rt.alloc(), piece, key, value)?;
-        assert_eq!(rt; refused_at(rt.alloc(), text.as_slice(), 1)?, refused, "{name}");
+        assert_eq!(rt;
+            refused_at(rt.alloc(), text.as_slice(), 1)?,
+            refused,
+            "{name}"
+        );
     }
     Ok(())
 }
@@ -243,10 +261,22 @@ fn prints_replies(rt: HostRuntime) -> Result<(), Fail> {
         ("absent", Reply::Absent(Partition(0)), b"0 none\n"),
         ("was", Reply::Was(Partition(0), b"v1"), b"0 was v1\n"),
         ("was empty", Reply::Was(Partition(9), b""), b"9 was %\n"),
-        ("cleared none", Reply::Cleared(Partition(0), 0), b"0 cleared 0\n"),
-        ("cleared", Reply::Cleared(Partition(63), 18_446_744_073_709_551_615), b"63 cleared 18446744073709551615\n"),
+        (
+            "cleared none",
+            Reply::Cleared(Partition(0), 0),
+            b"0 cleared 0\n",
+        ),
+        (
+            "cleared",
+            Reply::Cleared(Partition(63), 18_446_744_073_709_551_615),
+            b"63 cleared 18446744073709551615\n",
+        ),
         ("is", Reply::Is(Partition(63), b"v1"), b"63 is v1\n"),
-        ("is escaped", Reply::Is(Partition(1), b"a %"), b"1 is a%20%25\n"),
+        (
+            "is escaped",
+            Reply::Is(Partition(1), b"a %"),
+            b"1 is a%20%25\n",
+        ),
         ("synced", Reply::Synced(Partition(10)), b"10 synced\n"),
     ];
     for (name, reply, text) in rows {

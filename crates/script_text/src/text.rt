@@ -53,6 +53,9 @@ fn count_bytes(text: &[u8]) -> Option<usize>
     ensures none { IfNone result
         ((bytes : List ℕ) → All (λ b. b < 256) bytes → text.now ≡ flat_map byte_text bytes → ⊥) }
 {
+    if are_plain(text) {
+        return Some(text.len());
+    }
     let mut count = 0;
     let mut rest = text;
     while !rest.is_empty() {
@@ -70,11 +73,11 @@ fn first_byte(text: &[u8]) -> Option<(u8, &[u8])>
 {
     match text {
         [b'%', high, low, rest @ ..] => {
-            let byte = value_of_digit(*high)? * 16 + value_of_digit(*low)?;
-            if is_plain(byte) {
+            let escaped = value_of_digit(*high)? * 16 + value_of_digit(*low)?;
+            if is_plain(escaped) {
                 None
             } else {
-                Some((byte, rest))
+                Some((escaped, rest))
             }
         }
         [byte, rest @ ..] if is_plain(*byte) => Some((*byte, rest)),

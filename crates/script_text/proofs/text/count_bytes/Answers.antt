@@ -1,10 +1,8 @@
-use Rattle.std.proofs.Common.{◌<◌, ◌∷◌, ◌++◌, ◌==◌, [], ℕ, All, length, sym, ap, ◌∙◌, subst, arith}
-use Rattle.std.specs.List.{flat_map}
+use Rattle.std.proofs.Common.{refl, ◌<◌, ◌∷◌, ◌++◌, ◌==◌, [], length, sym, ap, ◌∙◌, arith}
 use Rattle.std.proofs.lemmas.Bool.{false≢true, eqb-true}
 use Rattle.std.proofs.lemmas.List.{length_push, nil_from_length}
 use Rattle.std.proofs.lemmas.List.Elements.{All-push}
-use Rattle.script_text.specs.Texts.{byte_text}
-use Rattle.script_text.proofs.Spellings.{spelled_more, spelled_none, spelled_rest, spelled_whole}
+use Rattle.script_text.proofs.Spellings.{plain_whole, spelled_more, spelled_none, spelled_rest, spelled_whole}
 use Rattle.script_text.proofs.text.count_bytes.Goals as goal
 
 pub returns-in_err-rest-clause-none : goal.returns-in_err-rest-clause-none
@@ -18,8 +16,7 @@ pub loop-rest-preserved : goal.loop-rest-preserved
 loop-rest-preserved c =
     let before = c.loop-rest.invariant in
     let byte = c.in_ok-rest.field-0.0 in
-    let found = c.in_ok-rest.ensures.found in
-    (
+    let found = c.in_ok-rest.ensures.found in (
       before.0 ++ byte ∷ [],
       All-push (λ b. b < 256) before.0 byte before.1 found.small,
       spelled_more c.args.text.now before.0 c.loop-rest.rest.now c.in_ok-rest.field-0.1.now byte before.2 found.spelled,
@@ -33,3 +30,6 @@ returns-clause-found c =
     let empty = nil_from_length c.loop-rest.rest.now (eqb-true (length c.loop-rest.rest.now) 0 (sym c.loop-rest-test.ensures)) in
     let whole = spelled_whole c.args.text.now before.0 c.loop-rest.rest.now before.1 before.2 empty in
     rw whole.1 (before.1, whole.0, sym before.3)
+
+pub returns-then-are_plain-clause-found : goal.returns-then-are_plain-clause-found
+returns-then-are_plain-clause-found c = plain_whole c.args.text.now (c.if-are_plain.ensures.0 refl)

@@ -1,4 +1,4 @@
-use Rattle.std.proofs.Common.{◌≡◌, List, ℕ, IfOk, length, subst, sym, ◌∙◌, arith}
+use Rattle.std.proofs.Common.{◌≡◌, List, ℕ, IfOk, subst, arith}
 use Rattle.script_text.specs.Fields.{word_bytes}
 use Rattle.script_text.proofs.Spellings.{text_same}
 use Rattle.script_text.proofs.text.owned_bytes.Goals as goal

@@ -1,16 +1,13 @@
-use Rattle.std.proofs.Common.{◌<◌, List, ◌∷◌, ◌++◌, [], ℕ, sym, ap, ◌∙◌, arith, append_assoc}
-use Rattle.std.specs.List.{flat_map}
+use Rattle.std.proofs.Common.{◌<◌, List, ◌∷◌, ◌++◌, [], ℕ, sym, ap, ◌∙◌, append_assoc}
 use Rattle.std.proofs.lemmas.List.Elements.{All-push}
 use Rattle.script_text.specs.Fields.{bytes_of}
-use Rattle.script_text.specs.Texts.{byte_text}
 use Rattle.script_text.proofs.Spellings.{spelled_more, spelled_none, spelled_rest, spelled_whole}
 use Rattle.script_text.proofs.text.push_bytes.Goals as goal
 
 pub loop-byte-preserved : goal.loop-byte-preserved
 loop-byte-preserved c =
     let before = c.loop-byte.invariant in
-    let byte = c.in-Some.byte in
-    (
+    let byte = c.in-Some.byte in (
       before.0 ++ byte ∷ [],
       All-push (λ b. b < 256) before.0 byte before.1 c.in-Some.ensures.found.small,
       spelled_more c.args.text.now before.0 c.loop-byte.rest.now c.in-Some.after.now byte before.2 c.in-Some.ensures.found.spelled,
