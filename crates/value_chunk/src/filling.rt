@@ -172,3 +172,6 @@ impl<F: Folder> Filling<F> {
         (name, file, size)
     }
 }
+
+#[cfg(test)]
+mod tests;
