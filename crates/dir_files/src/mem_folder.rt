@@ -122,7 +122,8 @@ impl Folder for MemFolder {
         ensures planned { KeepsPlan self.old.faults self.new.faults }
         ensures added { self.new.faults.count ≡ min (self.old.faults.count + other.faults.count) (2 ^ 64 - 1) }
         ensures kept { self.old.faults.count ≤ self.new.faults.count }
-        ensures stays_sound { is_sound other.faults ≡ true → StaysSound (is_sound self.old.faults) (is_sound self.new.faults) self.new.faults.count }
+        ensures stays_sound { is_sound other.faults ≡ true
+            → StaysSound (is_sound self.old.faults) (is_sound self.new.faults) self.new.faults.count }
     {
         let MemFolder {
             mut chain,
@@ -169,7 +170,9 @@ impl Folder for MemFolder {
 
     fn append(&mut self, file: &mut MemFile, piece: &[u8]) -> Result<(), FolderRefusal>
         ensures appended { OnOk result (file.new.content ≡ with_bytes file.old.content piece.now) }
-        ensures failed { IsErrOf result FolderRefusal.Fault → (file.new.content ≡ with_bytes file.old.content (take (length piece.now / 2) piece.now)) ⊎ (file.new.content ≡ file.old.content) }
+        ensures failed { IsErrOf result FolderRefusal.Fault
+            → (file.new.content ≡ with_bytes file.old.content (take (length piece.now / 2) piece.now))
+            ⊎ (file.new.content ≡ file.old.content) }
         ensures memory { IsErrOf result FolderRefusal.Memory → file.new.content ≡ file.old.content }
         ensures name { file.new.name ≡ file.old.name }
         ensures same { self.new.chain ≡ self.old.chain }

@@ -88,9 +88,12 @@ pub record Seals (tells : Bool) (old new : Chunk) : Type 0 where
   pub torn : new.torn ≡ old.torn
   pub file : tells ≡ true → new.file ≡ named_file (synced_file old.file)
 
--- a chunk that could not be sealed may have been synced, and is as before otherwise
-abbrev pub IsKept : Bool → Chunk → Chunk → Type 0
-IsKept tells old new = SameChunk tells old new ⊎ Synced tells old new
+-- it was not sealed: its file may have been synced, and all else is as before
+pub record IsKept (tells : Bool) (old new : Chunk) : Type 0 where
+  pub name : new.name ≡ old.name
+  pub size : new.size ≡ old.size
+  pub torn : new.torn ≡ old.torn
+  pub file : SameChunk tells old new ⊎ Synced tells old new
 
 -- the names are synced where the chunk's name was not fixed, and where the call was not refused
 abbrev pub SealsAt : {T E : Type 0} → Result T E → Port → Port → ChunkName → Type 0

@@ -1,5 +1,5 @@
 -- A chunk file that is written, as contracts see it in each of its states.
-use Rattle.std.specs.Prelude.{◌≡◌, ℕ, ◌+◌, ◌≤◌, Bool, true, false, ◌||◌, ◌==◌, nat_le, List, length, Option, Some}
+use Rattle.std.specs.Prelude.{◌≡◌, ℕ, ◌+◌, ◌<◌, ◌≤◌, Bool, true, false, ◌||◌, ◌==◌, nat_le, List, length}
 use Rattle.hr_base.specs.declared.limits.TheConstants.{MAX_CHUNK_LIMIT}
 use Rattle.hr_base.specs.declared.name.Class.{Class}
 use Rattle.hr_base.specs.declared.name.ChunkName.{ChunkName}
@@ -19,11 +19,11 @@ pub record Chunk : Type 0 where
   -- the disk refused a record, and a prefix of it may stand behind the others
   pub torn : Bool
 
--- What holds of each chunk: its size is the file's length unless it is torn, and its file is synced where it is not
--- said to be unsynced. The handle has this name.
-pub record IsChunk (tells : Bool) (told : Option ChunkName) (chunk : Chunk) : Type 0 where
-  pub name : tells ≡ true → told ≡ Some chunk.name
+-- What holds of each chunk: its size is the file's length, and it is unsynced exactly where bytes are past the file's
+-- front. One that is torn may be longer, and said to be unsynced in any case.
+pub record IsChunk (tells : Bool) (chunk : Chunk) : Type 0 where
   pub size : tells ≡ true → chunk.torn ≡ false → chunk.size ≡ length chunk.file.bytes
+  pub past : tells ≡ true → chunk.torn ≡ false → chunk.unsynced ≡ true → chunk.file.front < length chunk.file.bytes
   pub synced : tells ≡ true → chunk.unsynced ≡ false → chunk.file.front ≡ length chunk.file.bytes
   pub within : chunk.size ≤ MAX_CHUNK_LIMIT
 

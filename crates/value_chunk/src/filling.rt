@@ -1,12 +1,12 @@
 //! A chunk that takes records.
 
-ghost use Rattle.std.specs.Prelude.{◌≡◌, ◌≤◌, true, false, IfOk, IsOk, Some, length};
+ghost use Rattle.std.specs.Prelude.{◌≡◌, true, false, IfOk, IsOk, Some, length};
 ghost use Rattle.hr_base.specs.declared.limits.TheConstants.{MAX_CHUNK_LIMIT};
 ghost use Rattle.hr_base.specs.declared.name.Class.TheVariants.{Value};
 ghost use Rattle.hr_base.specs.Names.{IsChunkName, class_of_kind};
 ghost use Rattle.dir_files.specs.Faults.{is_fault, CountsFault, StaysSound};
 ghost use Rattle.dir_files.specs.Ports.{Gives, IsFreeName, SamePort};
-ghost use Rattle.value_chunk.specs.Chunks.{fits, IsOneRecord};
+ghost use Rattle.value_chunk.specs.Chunks.{fits, IsChunk, IsOneRecord};
 ghost use Rattle.value_chunk.specs.Calls.{Appends, Begins, BeginsAt, Marks, SyncsFile};
 
 use crate::full::Full;
@@ -24,13 +24,14 @@ pub struct Filling<F: Folder> {
 }
 
 impl<F: Folder> Model for Filling<F> {
+    ghost use Rattle.std.specs.Prelude.{◌≡◌, true, Some};
     ghost use Rattle.value_chunk.specs.Chunks.{Chunk, IsChunk};
 
     ghost Value = { Chunk };
 
     ghost view = { λ it. record { name = it.name; file = F.state it.file; size = it.size; unsynced = it.unsynced; torn = it.torn } };
 
-    ghost invariant = { λ it. IsChunk F.tells (F.File.name it.file) (record { name = it.name; file = F.state it.file; size = it.size; unsynced = it.unsynced; torn = it.torn }) };
+    ghost invariant = { λ it. (F.tells ≡ true → F.File.name it.file ≡ Some it.name) × IsChunk F.tells (record { name = it.name; file = F.state it.file; size = it.size; unsynced = it.unsynced; torn = it.torn }) };
 }
 
 impl<F: Folder> Filling<F> {
@@ -66,11 +67,10 @@ impl<F: Folder> Filling<F> {
         })
     }
 
-    /// The bytes of the records that were appended. They are the file's length unless an append answered `Fault`.
+    /// The bytes of the records that were appended.
     pub fn size(&self) -> u64
         ensures size { result ≡ self.now.size }
-        ensures length { F.tells ≡ true → self.now.torn ≡ false → result ≡ length self.now.file.bytes }
-        ensures within { result ≤ MAX_CHUNK_LIMIT }
+        ensures chunk { IsChunk F.tells self.now }
     {
         self.size
     }
@@ -159,7 +159,7 @@ impl<F: Folder> Filling<F> {
     pub(crate) fn into_parts(self) -> (ChunkName, F::File, u64)
         ensures name { result.0 ≡ self.name }
         ensures size { result.2 ≡ self.size }
-        ensures length { F.tells ≡ true → self.torn ≡ false → self.size ≡ length self.file.bytes }
+        ensures chunk { IsChunk F.tells self }
         ensures file { F.tells ≡ true → (F.File.name result.1 ≡ Some self.name) × (F.state result.1 ≡ self.file) }
     {
         let Filling {
@@ -172,3 +172,6 @@ impl<F: Folder> Filling<F> {
         (name, file, size)
     }
 }
+
+#[cfg(test)]
+mod tests;

@@ -47,10 +47,13 @@ impl<F: Folder> Full<F> {
     /// Makes the file's bytes and then its name durable. It makes no call of the folder that is not needed.
     pub fn seal(self, port: &mut F) -> Result<Sealed<F>, NotSealed<F>>
         requires { F.tells ≡ true → can_be_fixed (F.port port.old) self.name ≡ true }
-        ensures sealed { MatchResult result (λ sealed. Seals F.tells self sealed) (λ refused. IsKept F.tells self refused.kept) }
-        ensures idle { F.tells ≡ true → self.unsynced ≡ false → (F.port port.old).fixed self.name ≡ true → IsOk result × (port.new ≡ port.old) }
+        ensures sealed { MatchResult result
+            (λ sealed. Seals F.tells self sealed) (λ refused. IsKept F.tells self refused.kept) }
+        ensures idle { F.tells ≡ true → self.unsynced ≡ false → (F.port port.old).fixed self.name ≡ true
+            → IsOk result × (port.new ≡ port.old) }
         ensures port { F.tells ≡ true → SealsAt result (F.port port.old) (F.port port.new) self.name }
-        ensures counts { MatchResult result (λ _. F.count port.new ≡ F.count port.old) (λ refused. CountsFault (is_disk refused.why) (F.count port.old) (F.count port.new)) }
+        ensures counts { MatchResult result (λ _. F.count port.new ≡ F.count port.old)
+            (λ refused. CountsFault (is_disk refused.why) (F.count port.old) (F.count port.new)) }
         ensures stays_sound { StaysSound (F.sound port.old) (F.sound port.new) (F.count port.new) }
     {
         let Full { mut filling } = self;
@@ -77,8 +80,10 @@ impl<F: Folder> Full<F> {
 /// Makes a file's bytes and then its name durable.
 fn make_durable<F: Folder>(chunk: &mut Filling<F>, port: &mut F) -> Result<(), FolderRefusal>
     requires { F.tells ≡ true → can_be_fixed (F.port port.old) chunk.old.name ≡ true }
-    ensures sealed { MatchResult result (λ _. Seals F.tells chunk.old chunk.new) (λ _. IsKept F.tells chunk.old chunk.new) }
-    ensures idle { F.tells ≡ true → chunk.old.unsynced ≡ false → (F.port port.old).fixed chunk.old.name ≡ true → IsOk result × (port.new ≡ port.old) }
+    ensures sealed { MatchResult result
+        (λ _. Seals F.tells chunk.old chunk.new) (λ _. IsKept F.tells chunk.old chunk.new) }
+    ensures idle { F.tells ≡ true → chunk.old.unsynced ≡ false → (F.port port.old).fixed chunk.old.name ≡ true
+        → IsOk result × (port.new ≡ port.old) }
     ensures port { F.tells ≡ true → SealsAt result (F.port port.old) (F.port port.new) chunk.old.name }
     ensures counts { CountsFault (is_fault result) (F.count port.old) (F.count port.new) }
     ensures stays_sound { StaysSound (F.sound port.old) (F.sound port.new) (F.count port.new) }
