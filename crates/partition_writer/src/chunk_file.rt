@@ -177,6 +177,7 @@ impl<F: Folder> ChunkFile<F> {
     /// Gives the file back, and hands out the port. It takes no memory.
     pub fn close(self) -> F
         ensures closed { F.tells ≡ true → ClosesStored (chunk_state self) (F.port result) }
+        ensures no_file { is_none self.file ≡ true → result ≡ self.port }
         ensures kept { F.count self.port ≤ F.count result }
         ensures stays_sound { F.sound self.port ≡ true
             → (F.sound result ≡ true) × (F.count result ≡ 0) }

@@ -50,7 +50,7 @@ pub struct Writer<F: Folder> {
     alloc: Global,
     ghost numbered: { 1 ≤ next },
     ghost limited: { next ≤ SEQ_END },
-    ghost lengths: { KeepsLimits map.entries },
+    pub ghost lengths: { KeepsLimits map.entries },
 }
 
 impl<F: Folder> Writer<F> {
@@ -123,10 +123,10 @@ impl<F: Folder> Writer<F> {
             → KeepsRecords (standing self.old) (standing self.new) }
         ensures fault { IsErrOf result WriteRefusal.DiskFault
             → LosesPut (standing self.old) (standing self.new) prefix key.now value.now }
-        // A file is created only where there is none, and where nothing was appended nothing is left to sync for it.
+        // A file is created only where there is none, and what appends nothing leaves nothing more to sync.
         ensures created { is_none (chunk_of self.old).file ≡ false
             → (chunk_of self.new).fresh ≡ (chunk_of self.old).fresh }
-        ensures idle { IsErrOf result WriteRefusal.Memory
+        ensures unsynced { IsErrOf result WriteRefusal.Memory
             → (chunk_of self.new).unsynced ≡ (chunk_of self.old).unsynced }
 
         // When each refusal comes.
@@ -255,6 +255,7 @@ impl<F: Folder> Writer<F> {
         ensures leaves { F.tells ≡ true → (a : Account) (size : ℕ) → StandsFor (standing self) a size
             → size ≤ MAX_FILE_LEN
             → PartSurvives 0 (F.port result).held (F.port result).gone a }
+        ensures no_file { is_none (chunk_of self).file ≡ true → result ≡ (chunk_of self).port }
         // Where no record may lack bytes, what is read without a crash restarts to the maps.
         ensures exact { F.tells ≡ true → (a : Account) (size : ℕ) → StandsFor (standing self) a size
             → size ≤ MAX_FILE_LEN → (standing self).lost ≡ false
