@@ -17,7 +17,7 @@ use Rattle.record_format.specs.Spelling.{seq_of, spellings}
 use Rattle.record_format.specs.Splits.{Splits, IsTorn}
 use Rattle.record_format.proofs.SplitLaws.{one_split}
 use Rattle.crash_law.specs.Accounts.{Account, Fits}
-use Rattle.crash_law.specs.Chunks.{IsChunk, LeavesFront}
+use Rattle.crash_law.specs.Chunks.{HoldsRecords, LeavesFront}
 use Rattle.crash_law.specs.Commands.{Command, command_of, touches, state_of, state_after_all, maps_after_all}
 use Rattle.crash_law.specs.Crashes.{Kept, Recovers, IsImageOfPart, PartSurvives}
 use Rattle.crash_law.specs.Numbered.{Rising, IsIn, commands_of}
@@ -104,7 +104,7 @@ module _ (p : ℕ) (files gone : Files) (name : ChunkName) (durable tail : List 
         left_of (files name) (gone name) bytes (one.none_gone name one.partition)
         (subst (λ (o : Option (List ℕ)). MayLeave (files name) (gone name) o) there (is name one.partition))
 
-    chunk : IsChunk left.state durable tail missing
+    chunk : HoldsRecords left.state durable tail missing
     chunk = subst (λ (o : Option FileState). HasRecords o durable tail missing) left.is has
 
     front : LeavesFront Value durable tail bytes

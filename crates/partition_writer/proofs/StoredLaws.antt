@@ -5,7 +5,7 @@ use Rattle.std.proofs.lemmas.List.{append-nil}
 use Rattle.hr_base.specs.declared.name.ChunkName.{ChunkName}
 use Rattle.dir_files.specs.Files.{FileState, with_bytes}
 use Rattle.dir_files.specs.Ports.{Port, SamePort}
-use Rattle.partition_writer.specs.Stored.{first_chunk, Handle, ChunkState, StoredAt, Stores, KeepsStored, StoresMore, StoresDurably, IsDurable}
+use Rattle.partition_writer.specs.Stored.{first_chunk, Handle, ChunkState, StoredAt, Stores, KeepsStored, StoresMore, StoresDurably, IsAllDurable}
 
 -- ---- one variant of an answer
 
@@ -97,7 +97,7 @@ drop_shorter n piece = omega (arith, ap length (take-append-drop n piece), lengt
 -- ---- bytes are made durable
 
 durable_at : (s : ChunkState) (handle : Option Handle) (durable : ℕ) (bytes : List ℕ) → s.fresh ≡ false → s.unsynced ≡ false
-    → StoredAt s handle durable bytes [] → StoredAt s handle (length bytes) bytes [] × IsDurable handle
+    → StoredAt s handle durable bytes [] → StoredAt s handle (length bytes) bytes [] × IsAllDurable handle
 durable_at s None durable bytes named synced h = (record { held_is = h.held_is; not_out = h.not_out; none = ap length h.content; content = h.content }, tt)
 durable_at s (Some x) durable bytes named synced h =
     let front = h.all_synced synced in (

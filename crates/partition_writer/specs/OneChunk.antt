@@ -10,7 +10,7 @@ use Rattle.record_format.specs.declared.record.Record.{Record}
 use Rattle.record_format.specs.Spelling.{spellings}
 use Rattle.record_format.specs.Splits.{IsOfClass}
 use Rattle.crash_law.specs.Accounts.{Account}
-use Rattle.crash_law.specs.Chunks.{IsChunk}
+use Rattle.crash_law.specs.Chunks.{HoldsRecords}
 use Rattle.crash_law.specs.Commands.{maps_after_all}
 use Rattle.crash_law.specs.Numbered.{Rising, commands_of}
 
@@ -24,7 +24,7 @@ pub record IsOneChunk (p : ℕ) (files gone : Files) (name : ChunkName) : Type 0
 -- the file has the records, of which the first are durable; there may be no file yet
 abbrev pub HasRecords : Option FileState → List Record → List Record → List ℕ → Type 0
 HasRecords None durable tail missing = durable ≡ []
-HasRecords (Some file) durable tail missing = IsChunk file durable tail missing
+HasRecords (Some file) durable tail missing = HoldsRecords file durable tail missing
 
 -- the account is that of the chunk's records, of which the first are durable
 pub record Recorded (durable tail : List Record) (a : Account) : Type 0 where

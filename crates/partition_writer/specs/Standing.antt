@@ -93,7 +93,7 @@ pub record Syncs (old new : Standing) : Type 0 where
   pub lost : new.lost ≡ old.lost
 
 -- some file in the writer's hands has the record whole
-pub record IsWhole (s : Standing) (r : Record) : Type 0 where
+pub record HoldsRecord (s : Standing) (r : Record) : Type 0 where
   pub handle : Handle
   pub name : ChunkName
   pub records : List Record
@@ -105,4 +105,4 @@ pub record IsWhole (s : Standing) (r : Record) : Type 0 where
 
 -- the record of each command of the tail is whole in the writer's files
 abbrev pub HoldsTail : Standing → Type 0
-HoldsTail s = (r : Record) → Contains s.records r → IsWhole s r
+HoldsTail s = (r : Record) → Contains s.records r → HoldsRecord s r

@@ -62,9 +62,9 @@ pub record Stores (s : ChunkState) (durable : ℕ) (bytes missing : List ℕ) : 
   pub at : StoredAt s s.handle durable bytes missing
 
 -- all bytes of the file, if there is one, survive every crash
-abbrev pub IsDurable : Option Handle → Type 0
-IsDurable None = Unit {0}
-IsDurable (Some handle) = (handle.file.front ≡ length handle.file.bytes) × (handle.file.named ≡ true)
+abbrev pub IsAllDurable : Option Handle → Type 0
+IsAllDurable None = Unit {0}
+IsAllDurable (Some handle) = (handle.file.front ≡ length handle.file.bytes) × (handle.file.named ≡ true)
 
 -- ---- what a call makes of what was stored whole
 
@@ -85,7 +85,7 @@ StoresFront piece old new =
 -- all of it is durable, with its name
 abbrev pub StoresDurably : ChunkState → ChunkState → Type 0
 StoresDurably old new =
-    (durable : ℕ) (bytes : List ℕ) → Stores old durable bytes [] → Stores new (length bytes) bytes [] × IsDurable new.handle
+    (durable : ℕ) (bytes : List ℕ) → Stores old durable bytes [] → Stores new (length bytes) bytes [] × IsAllDurable new.handle
 
 -- ---- a closed port
 

@@ -69,7 +69,7 @@ impl<F: Folder> Writer<F> {
     ghost use Rattle.crash_law.specs.Restarts.{RestartsAs};
     ghost use Rattle.crash_law.specs.Crashes.{PartSurvives};
     ghost use Rattle.partition_writer.specs.Disk.{HaltsAtFault};
-    ghost use Rattle.partition_writer.specs.Stored.{first_chunk, IsIdle, KeepsStored, StoresMore, StoresFront, IsDurable};
+    ghost use Rattle.partition_writer.specs.Stored.{first_chunk, IsIdle, KeepsStored, StoresMore, StoresFront, IsAllDurable};
     ghost use Rattle.partition_writer.specs.Standing.{disk_of, StandsFor, Writes, Puts, LosesPut, KeepsRecords, Syncs, HoldsTail};
     ghost use Rattle.dir_files.specs.PortStates.{IsGivenBack};
     ghost use Rattle.partition_writer.specs.WriterViews.{chunk_of, standing};
@@ -235,7 +235,7 @@ impl<F: Folder> Writer<F> {
         ensures account { F.tells ≡ true → (a : Account) (size : ℕ)
             → StandsFor (standing self.old) a size
             → OnOk result (StandsFor (standing self.new) (synced a) size
-                × IsDurable (standing self.new).chunk.handle) }
+                × IsAllDurable (standing self.new).chunk.handle) }
         ensures same { F.tells ≡ true → (a : Account) (size : ℕ)
             → StandsFor (standing self.old) a size
             → OnErr result (StandsFor (standing self.new) a size) }

@@ -16,7 +16,7 @@ use Rattle.record_format.specs.Splits.{IsOfClass, SpellsNone}
 use Rattle.record_format.specs.declared.reading.Flaw.{Flaw}
 use Rattle.record_format.specs.declared.reading.Flaw.TheVariants.{Number, KeyLength, ValueLength}
 use Rattle.record_format.specs.declared.reading.Step.TheVariants.{Torn}
-use Rattle.record_format.specs.Steps.{KeepsLimits, IsFirstFlaw, IsFlawed, IsStep, record_with}
+use Rattle.record_format.specs.Steps.{FitsLimits, IsFirstFlaw, IsFlawed, IsStep, record_with}
 use Rattle.record_format.proofs.HeaderLaws.{spelling_length, header_seq-spelling, header_key-spelling, header_value-spelling}
 
 -- the record that the bytes begin with, and the bytes behind it
@@ -28,7 +28,7 @@ pub record Front (c : Class) (bytes : List ℕ) : Type 0 where
 
 -- the header is one that a record has, and as much follows as it says
 pub record Announces (c : Class) (bytes : List ℕ) : Type 0 where
-  pub limits : KeepsLimits (header_seq c bytes) (header_key c bytes) (header_value c bytes)
+  pub limits : FitsLimits (header_seq c bytes) (header_key c bytes) (header_value c bytes)
   pub room : record_length c (header_key c bytes) (header_value c bytes) ≤ length bytes
 
 -- ---- a spelling announces itself
@@ -68,7 +68,7 @@ flawed_unannounced c bytes (ValueLength n) f a = omega (arith, f.first.2, f.firs
 abbrev SomeFlaw : ℕ → ℕ → ℕ → Type 0
 SomeFlaw s k v = (flaw : Flaw) × IsFirstFlaw s k v flaw
 
-first_flaw_or_none : (s k v : ℕ) → SomeFlaw s k v ⊎ KeepsLimits s k v
+first_flaw_or_none : (s k v : ℕ) → SomeFlaw s k v ⊎ FitsLimits s k v
 first_flaw_or_none s k v =
     ⊎_elim (λ none. inl (Number s, (refl, inl (omega arith))))
     (λ numbered. ⊎_elim

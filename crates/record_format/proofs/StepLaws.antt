@@ -15,7 +15,7 @@ use Rattle.record_format.specs.Spelling.{spelling}
 use Rattle.record_format.specs.declared.header.Header.{Header}
 use Rattle.record_format.specs.Headers.{IsHeader, header_seq, header_prefix, header_key, header_value}
 use Rattle.record_format.specs.Splits.{IsDamaged, IsOfClass, IsTorn, SpellsNone}
-use Rattle.record_format.specs.Steps.{IsFirstFlaw, SaysDamaged, IsFlawed, IsStep, IsWhole, KeepsLimits, SameStep, Shows, record_of, record_with}
+use Rattle.record_format.specs.Steps.{IsFirstFlaw, SaysDamaged, IsFlawed, IsStep, IsWhole, FitsLimits, SameStep, Shows, record_of, record_with}
 use Rattle.record_format.proofs.Distinct.{no_spelling_begins_another}
 use Rattle.record_format.proofs.HeaderLaws.{drop_behind, spelling_length, header_seq-append, header_key-append, header_value-append}
 use Rattle.record_format.proofs.Fronts.{Announces, announced_of_class, announced_spelled, announces_or_step, early_unannounced, field_fits, flawed_unannounced, none_unannounced, record_at, spelled_announces}
@@ -64,7 +64,7 @@ announced_whole c bytes view n all a same count =
 
 -- a record that was read behind its header
 pub read_whole : (c : Class) (bytes : List ℕ) (h : Header) (body : List ℕ) (view : RecordView) (n : ℕ) → All (λ b. b < 256) bytes → IsHeader c bytes h body
-    → KeepsLimits h.seq h.key_len h.value_len → h.key_len + h.value_len ≤ length body
+    → FitsLimits h.seq h.key_len h.value_len → h.key_len + h.value_len ≤ length body
     → record_of view ≡ record_with c h.seq h.prefix (take h.key_len body) (take h.value_len (drop h.key_len body))
     → n ≡ record_length c h.key_len h.value_len → IsWhole c bytes view n
 read_whole c bytes h body view n all head limits room shown count =

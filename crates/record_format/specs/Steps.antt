@@ -29,7 +29,7 @@ record_of (TombView seq prefix key) = Tomb seq prefix key.now
 record_of (ClearView prefix seq) = Clear prefix seq
 
 -- a record may have this number, a key and a value of these lengths
-pub record KeepsLimits (seq key value : ℕ) : Type 0 where
+pub record FitsLimits (seq key value : ℕ) : Type 0 where
   pub numbered : IsSeq seq
   pub key_fits : key ≤ MAX_KEY_LEN
   pub value_fits : value ≤ MAX_VALUE_LEN
@@ -49,7 +49,7 @@ pub record IsWhole (class : Class) (bytes : List ℕ) (view : RecordView) (count
 -- a complete header that a record may have, and fewer bytes than it announces
 pub record IsCutShort (class : Class) (bytes : List ℕ) : Type 0 where
   pub complete : header_length class ≤ length bytes
-  pub limits : KeepsLimits (header_seq class bytes) (header_key class bytes) (header_value class bytes)
+  pub limits : FitsLimits (header_seq class bytes) (header_key class bytes) (header_value class bytes)
   pub short : length bytes < record_length class (header_key class bytes) (header_value class bytes)
 
 -- a complete header that no record may have, and what is wrong there first

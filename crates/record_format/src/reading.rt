@@ -4,7 +4,7 @@ ghost use Rattle.std.specs.Prelude.{◌≡◌, ◌↔◌, ◌<◌, ◌≤◌, �
 ghost use Rattle.record_format.specs.declared.record.Record.{Record};
 ghost use Rattle.record_format.specs.Spelling.{spelling};
 ghost use Rattle.record_format.specs.Splits.{IsDamaged, IsOfClass, IsTorn, SpellsNone};
-ghost use Rattle.record_format.specs.Steps.{IfWhole, IsFirstFlaw, IsStep, KeepsLimits, SaysDamaged, Shows, record_of, record_with};
+ghost use Rattle.record_format.specs.Steps.{IfWhole, IsFirstFlaw, IsStep, FitsLimits, SaysDamaged, Shows, record_of, record_with};
 
 use crate::header::{Header, read_header};
 use hr_base::{Class, MAX_KEY_LEN, MAX_VALUE_LEN, SEQ_END, Seq};
@@ -97,7 +97,7 @@ fn first_flaw(header: &Header) -> Option<Flaw>
     ensures found { IfSome result
         (IsFirstFlaw header.now.seq header.now.key_len header.now.value_len) }
     ensures none { IfNone result
-        (KeepsLimits header.now.seq header.now.key_len header.now.value_len) }
+        (FitsLimits header.now.seq header.now.key_len header.now.value_len) }
 {
     if header.seq == 0 || header.seq >= SEQ_END {
         Some(Flaw::Number(header.seq))
