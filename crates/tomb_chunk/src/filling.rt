@@ -6,7 +6,7 @@ ghost use Rattle.hr_base.specs.Names.{IsChunkName, class_of_kind};
 ghost use Rattle.dir_files.specs.Faults.{is_fault, CountsFault, StaysSound};
 ghost use Rattle.dir_files.specs.Ports.{Gives, IsFreeName, SamePort};
 ghost use Rattle.value_chunk.specs.Chunks.{fits, IsChunk, IsOneRecord};
-ghost use Rattle.value_chunk.specs.Calls.{Appends, Begins, BeginsAt, Marks, SyncsFile};
+ghost use Rattle.value_chunk.specs.Calls.{begun, Appends, BeginsAt, IsTold, Marks, SyncsFile};
 ghost use Rattle.tomb_chunk.specs.Tombs.{is_tomb_name};
 
 use crate::full::TombFull;
@@ -38,7 +38,7 @@ impl<F: Folder> TombFilling<F> {
         requires class { is_tomb_name name ≡ true }
         requires valid { IsChunkName name }
         requires free { F.tells ≡ true → IsFreeName (F.port port.old) name }
-        ensures begun { IfOk result (λ chunk. Begins F.tells name chunk) }
+        ensures begun { IfOk result (IsTold F.tells (begun name)) }
         ensures port { F.tells ≡ true → BeginsAt result (F.port port.old) (F.port port.new) name }
         ensures counts { CountsFault (is_fault result) (F.count port.old) (F.count port.new) }
         ensures stays_sound { StaysSound (F.sound port.old) (F.sound port.new) (F.count port.new) }

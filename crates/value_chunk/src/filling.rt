@@ -7,7 +7,7 @@ ghost use Rattle.hr_base.specs.Names.{IsChunkName, class_of_kind};
 ghost use Rattle.dir_files.specs.Faults.{is_fault, CountsFault, StaysSound};
 ghost use Rattle.dir_files.specs.Ports.{Gives, IsFreeName, SamePort};
 ghost use Rattle.value_chunk.specs.Chunks.{fits, IsChunk, IsOneRecord};
-ghost use Rattle.value_chunk.specs.Calls.{Appends, Begins, BeginsAt, Marks, SyncsFile};
+ghost use Rattle.value_chunk.specs.Calls.{begun, Appends, BeginsAt, IsTold, Marks, SyncsFile};
 
 use crate::full::Full;
 use dir_files::{Folder, FolderRefusal};
@@ -40,7 +40,7 @@ impl<F: Folder> Filling<F> {
         requires class { class_of_kind name.kind ≡ Value }
         requires valid { IsChunkName name }
         requires free { F.tells ≡ true → IsFreeName (F.port port.old) name }
-        ensures begun { IfOk result (λ chunk. Begins F.tells name chunk) }
+        ensures begun { IfOk result (IsTold F.tells (begun name)) }
         ensures port { F.tells ≡ true → BeginsAt result (F.port port.old) (F.port port.new) name }
         ensures counts { CountsFault (is_fault result) (F.count port.old) (F.count port.new) }
         ensures stays_sound { StaysSound (F.sound port.old) (F.sound port.new) (F.count port.new) }
@@ -52,7 +52,7 @@ impl<F: Folder> Filling<F> {
     pub fn begin_of_any_class(port: &mut F, name: ChunkName) -> Result<Filling<F>, FolderRefusal>
         requires valid { IsChunkName name }
         requires free { F.tells ≡ true → IsFreeName (F.port port.old) name }
-        ensures begun { IfOk result (λ chunk. Begins F.tells name chunk) }
+        ensures begun { IfOk result (IsTold F.tells (begun name)) }
         ensures port { F.tells ≡ true → BeginsAt result (F.port port.old) (F.port port.new) name }
         ensures counts { CountsFault (is_fault result) (F.count port.old) (F.count port.new) }
         ensures stays_sound { StaysSound (F.sound port.old) (F.sound port.new) (F.count port.new) }
