@@ -3,10 +3,11 @@
 ghost use Rattle.std.specs.Prelude.{◌≡◌, true, false, IfOk, IsOk, length};
 ghost use Rattle.hr_base.specs.declared.limits.TheConstants.{MAX_CHUNK_LIMIT};
 ghost use Rattle.hr_base.specs.Names.{IsChunkName, class_of_kind};
-ghost use Rattle.dir_files.specs.Faults.{is_fault, CountsFault, StaysSound};
-ghost use Rattle.dir_files.specs.Ports.{Gives, IsFreeName, SamePort};
+ghost use Rattle.dir_files.specs.Faults.{is_fault};
+ghost use Rattle.dir_files.specs.PortCalls.{Counts, GivesFile, LeavesPort};
+ghost use Rattle.dir_files.specs.Ports.{IsFreeName};
 ghost use Rattle.value_chunk.specs.Chunks.{fits, IsChunk, IsOneRecord};
-ghost use Rattle.value_chunk.specs.Calls.{Appends, Begins, BeginsAt, Marks, SyncsFile};
+ghost use Rattle.value_chunk.specs.Calls.{begun, Appends, BeginsAt, IsTold, Marks, SyncsFile};
 ghost use Rattle.tomb_chunk.specs.Tombs.{is_tomb_name};
 
 use crate::full::TombFull;
@@ -38,10 +39,9 @@ impl<F: Folder> TombFilling<F> {
         requires class { is_tomb_name name ≡ true }
         requires valid { IsChunkName name }
         requires free { F.tells ≡ true → IsFreeName (F.port port.old) name }
-        ensures begun { IfOk result (λ chunk. Begins F.tells name chunk) }
+        ensures begun { IfOk result (IsTold F.tells (begun name)) }
         ensures port { F.tells ≡ true → BeginsAt result (F.port port.old) (F.port port.new) name }
-        ensures counts { CountsFault (is_fault result) (F.count port.old) (F.count port.new) }
-        ensures stays_sound { StaysSound (F.sound port.old) (F.sound port.new) (F.count port.new) }
+        ensures counts { Counts ⟦<F as Folder>⟧ (is_fault result) port.old port.new }
     {
         let filling = Filling::begin_of_any_class(port, name)?;
         Ok(TombFilling { filling })
@@ -68,9 +68,7 @@ impl<F: Folder> TombFilling<F> {
         requires room { fits self.old.size (length bytes.now) MAX_CHUNK_LIMIT ≡ true }
         requires whole { self.old.torn ≡ false }
         ensures appended { Appends F.tells result self.old self.new bytes.now }
-        ensures same { F.tells ≡ true → SamePort (F.port port.old) (F.port port.new) }
-        ensures counts { CountsFault (is_fault result) (F.count port.old) (F.count port.new) }
-        ensures stays_sound { StaysSound (F.sound port.old) (F.sound port.new) (F.count port.new) }
+        ensures port { LeavesPort ⟦<F as Folder>⟧ (is_fault result) port.old port.new }
     {
         self.filling.append(port, bytes)
     }
@@ -79,9 +77,7 @@ impl<F: Folder> TombFilling<F> {
     pub fn sync(&mut self, port: &mut F) -> Result<(), FolderRefusal>
         ensures synced { SyncsFile F.tells result self.old self.new }
         ensures idle { self.old.unsynced ≡ false → IsOk result × (self.new ≡ self.old) × (port.new ≡ port.old) }
-        ensures same { F.tells ≡ true → SamePort (F.port port.old) (F.port port.new) }
-        ensures counts { CountsFault (is_fault result) (F.count port.old) (F.count port.new) }
-        ensures stays_sound { StaysSound (F.sound port.old) (F.sound port.new) (F.count port.new) }
+        ensures port { LeavesPort ⟦<F as Folder>⟧ (is_fault result) port.old port.new }
     {
         self.filling.sync(port)
     }
@@ -105,9 +101,7 @@ impl<F: Folder> TombFilling<F> {
 
     /// Gives the file back to the folder.
     pub fn give(self, port: &mut F)
-        ensures given { F.tells ≡ true → Gives (F.port port.old) (F.port port.new) self.name self.file }
-        ensures counts { F.count port.new ≡ F.count port.old }
-        ensures stays_sound { StaysSound (F.sound port.old) (F.sound port.new) (F.count port.new) }
+        ensures { GivesFile ⟦<F as Folder>⟧ port.old port.new self.name self.file }
     {
         let TombFilling { filling } = self;
         filling.give(port);

@@ -1,8 +1,9 @@
 //! A chunk of tombstones or of prefix tombstones that takes no more records.
 
 ghost use Rattle.std.specs.Prelude.{◌≡◌, true, false, IsOk, MatchResult};
-ghost use Rattle.dir_files.specs.Faults.{is_disk, is_fault, CountsFault, StaysSound};
-ghost use Rattle.dir_files.specs.Ports.{can_be_fixed, Gives, SamePort};
+ghost use Rattle.dir_files.specs.Faults.{is_disk, is_fault};
+ghost use Rattle.dir_files.specs.PortCalls.{Counts, GivesFile, LeavesPort};
+ghost use Rattle.dir_files.specs.Ports.{can_be_fixed};
 ghost use Rattle.value_chunk.specs.Calls.{IsKept, Seals, SealsAt, SyncsFile};
 ghost use Rattle.tomb_chunk.specs.Tombs.{is_tomb_name};
 
@@ -47,9 +48,7 @@ impl<F: Folder> TombFull<F> {
     pub fn sync(&mut self, port: &mut F) -> Result<(), FolderRefusal>
         ensures synced { SyncsFile F.tells result self.old self.new }
         ensures idle { self.old.unsynced ≡ false → IsOk result × (self.new ≡ self.old) × (port.new ≡ port.old) }
-        ensures same { F.tells ≡ true → SamePort (F.port port.old) (F.port port.new) }
-        ensures counts { CountsFault (is_fault result) (F.count port.old) (F.count port.new) }
-        ensures stays_sound { StaysSound (F.sound port.old) (F.sound port.new) (F.count port.new) }
+        ensures port { LeavesPort ⟦<F as Folder>⟧ (is_fault result) port.old port.new }
     {
         self.full.sync(port)
     }
@@ -62,9 +61,8 @@ impl<F: Folder> TombFull<F> {
         ensures idle { F.tells ≡ true → self.unsynced ≡ false → (F.port port.old).fixed self.name ≡ true
             → IsOk result × (port.new ≡ port.old) }
         ensures port { F.tells ≡ true → SealsAt result (F.port port.old) (F.port port.new) self.name }
-        ensures counts { MatchResult result (λ _. F.count port.new ≡ F.count port.old)
-            (λ refused. CountsFault (is_disk refused.why) (F.count port.old) (F.count port.new)) }
-        ensures stays_sound { StaysSound (F.sound port.old) (F.sound port.new) (F.count port.new) }
+        ensures counts { MatchResult result (λ _. Counts ⟦<F as Folder>⟧ false port.old port.new)
+            (λ refused. Counts ⟦<F as Folder>⟧ (is_disk refused.why) port.old port.new) }
     {
         let TombFull { full } = self;
         match full.seal(port) {
@@ -78,9 +76,7 @@ impl<F: Folder> TombFull<F> {
 
     /// Gives the file back to the folder.
     pub fn give(self, port: &mut F)
-        ensures given { F.tells ≡ true → Gives (F.port port.old) (F.port port.new) self.name self.file }
-        ensures counts { F.count port.new ≡ F.count port.old }
-        ensures stays_sound { StaysSound (F.sound port.old) (F.sound port.new) (F.count port.new) }
+        ensures { GivesFile ⟦<F as Folder>⟧ port.old port.new self.name self.file }
     {
         let TombFull { full } = self;
         full.give(port);

@@ -4,10 +4,11 @@ ghost use Rattle.std.specs.Prelude.{◌≡◌, true, false, IfOk, IsOk, Some, le
 ghost use Rattle.hr_base.specs.declared.limits.TheConstants.{MAX_CHUNK_LIMIT};
 ghost use Rattle.hr_base.specs.declared.name.Class.TheVariants.{Value};
 ghost use Rattle.hr_base.specs.Names.{IsChunkName, class_of_kind};
-ghost use Rattle.dir_files.specs.Faults.{is_fault, CountsFault, StaysSound};
-ghost use Rattle.dir_files.specs.Ports.{Gives, IsFreeName, SamePort};
+ghost use Rattle.dir_files.specs.Faults.{is_fault};
+ghost use Rattle.dir_files.specs.PortCalls.{Counts, GivesFile, LeavesPort};
+ghost use Rattle.dir_files.specs.Ports.{IsFreeName};
 ghost use Rattle.value_chunk.specs.Chunks.{fits, IsChunk, IsOneRecord};
-ghost use Rattle.value_chunk.specs.Calls.{Appends, Begins, BeginsAt, Marks, SyncsFile};
+ghost use Rattle.value_chunk.specs.Calls.{begun, Appends, BeginsAt, IsTold, Marks, SyncsFile};
 
 use crate::full::Full;
 use dir_files::{Folder, FolderRefusal};
@@ -40,10 +41,9 @@ impl<F: Folder> Filling<F> {
         requires class { class_of_kind name.kind ≡ Value }
         requires valid { IsChunkName name }
         requires free { F.tells ≡ true → IsFreeName (F.port port.old) name }
-        ensures begun { IfOk result (λ chunk. Begins F.tells name chunk) }
+        ensures begun { IfOk result (IsTold F.tells (begun name)) }
         ensures port { F.tells ≡ true → BeginsAt result (F.port port.old) (F.port port.new) name }
-        ensures counts { CountsFault (is_fault result) (F.count port.old) (F.count port.new) }
-        ensures stays_sound { StaysSound (F.sound port.old) (F.sound port.new) (F.count port.new) }
+        ensures counts { Counts ⟦<F as Folder>⟧ (is_fault result) port.old port.new }
     {
         Filling::begin_of_any_class(port, name)
     }
@@ -52,10 +52,9 @@ impl<F: Folder> Filling<F> {
     pub fn begin_of_any_class(port: &mut F, name: ChunkName) -> Result<Filling<F>, FolderRefusal>
         requires valid { IsChunkName name }
         requires free { F.tells ≡ true → IsFreeName (F.port port.old) name }
-        ensures begun { IfOk result (λ chunk. Begins F.tells name chunk) }
+        ensures begun { IfOk result (IsTold F.tells (begun name)) }
         ensures port { F.tells ≡ true → BeginsAt result (F.port port.old) (F.port port.new) name }
-        ensures counts { CountsFault (is_fault result) (F.count port.old) (F.count port.new) }
-        ensures stays_sound { StaysSound (F.sound port.old) (F.sound port.new) (F.count port.new) }
+        ensures counts { Counts ⟦<F as Folder>⟧ (is_fault result) port.old port.new }
     {
         let file = port.create(name)?;
         Ok(Filling {
@@ -88,9 +87,7 @@ impl<F: Folder> Filling<F> {
         requires room { fits self.old.size (length bytes.now) MAX_CHUNK_LIMIT ≡ true }
         requires whole { self.old.torn ≡ false }
         ensures appended { Appends F.tells result self.old self.new bytes.now }
-        ensures same { F.tells ≡ true → SamePort (F.port port.old) (F.port port.new) }
-        ensures counts { CountsFault (is_fault result) (F.count port.old) (F.count port.new) }
-        ensures stays_sound { StaysSound (F.sound port.old) (F.sound port.new) (F.count port.new) }
+        ensures port { LeavesPort ⟦<F as Folder>⟧ (is_fault result) port.old port.new }
     {
         let offset = self.size;
         match port.append(&mut self.file, bytes) {
@@ -112,9 +109,7 @@ impl<F: Folder> Filling<F> {
     pub fn sync(&mut self, port: &mut F) -> Result<(), FolderRefusal>
         ensures synced { SyncsFile F.tells result self.old self.new }
         ensures idle { self.old.unsynced ≡ false → IsOk result × (self.new ≡ self.old) × (port.new ≡ port.old) }
-        ensures same { F.tells ≡ true → SamePort (F.port port.old) (F.port port.new) }
-        ensures counts { CountsFault (is_fault result) (F.count port.old) (F.count port.new) }
-        ensures stays_sound { StaysSound (F.sound port.old) (F.sound port.new) (F.count port.new) }
+        ensures port { LeavesPort ⟦<F as Folder>⟧ (is_fault result) port.old port.new }
     {
         if self.unsynced {
             port.sync_file(&mut self.file)?;
@@ -141,9 +136,7 @@ impl<F: Folder> Filling<F> {
 
     /// Gives the file back to the folder.
     pub fn give(self, port: &mut F)
-        ensures given { F.tells ≡ true → Gives (F.port port.old) (F.port port.new) self.name self.file }
-        ensures counts { F.count port.new ≡ F.count port.old }
-        ensures stays_sound { StaysSound (F.sound port.old) (F.sound port.new) (F.count port.new) }
+        ensures { GivesFile ⟦<F as Folder>⟧ port.old port.new self.name self.file }
     {
         let Filling {
             name: _,

@@ -1,8 +1,9 @@
 //! A chunk that takes no more records.
 
 ghost use Rattle.std.specs.Prelude.{◌≡◌, true, false, IsOk, MatchResult};
-ghost use Rattle.dir_files.specs.Faults.{is_disk, is_fault, CountsFault, StaysSound};
-ghost use Rattle.dir_files.specs.Ports.{can_be_fixed, Gives, SamePort};
+ghost use Rattle.dir_files.specs.Faults.{is_disk, is_fault};
+ghost use Rattle.dir_files.specs.PortCalls.{Counts, GivesFile, LeavesPort};
+ghost use Rattle.dir_files.specs.Ports.{can_be_fixed};
 ghost use Rattle.value_chunk.specs.Calls.{IsKept, Seals, SealsAt, SyncsFile};
 
 use crate::filling::Filling;
@@ -37,9 +38,7 @@ impl<F: Folder> Full<F> {
     pub fn sync(&mut self, port: &mut F) -> Result<(), FolderRefusal>
         ensures synced { SyncsFile F.tells result self.old self.new }
         ensures idle { self.old.unsynced ≡ false → IsOk result × (self.new ≡ self.old) × (port.new ≡ port.old) }
-        ensures same { F.tells ≡ true → SamePort (F.port port.old) (F.port port.new) }
-        ensures counts { CountsFault (is_fault result) (F.count port.old) (F.count port.new) }
-        ensures stays_sound { StaysSound (F.sound port.old) (F.sound port.new) (F.count port.new) }
+        ensures port { LeavesPort ⟦<F as Folder>⟧ (is_fault result) port.old port.new }
     {
         self.filling.sync(port)
     }
@@ -52,9 +51,8 @@ impl<F: Folder> Full<F> {
         ensures idle { F.tells ≡ true → self.unsynced ≡ false → (F.port port.old).fixed self.name ≡ true
             → IsOk result × (port.new ≡ port.old) }
         ensures port { F.tells ≡ true → SealsAt result (F.port port.old) (F.port port.new) self.name }
-        ensures counts { MatchResult result (λ _. F.count port.new ≡ F.count port.old)
-            (λ refused. CountsFault (is_disk refused.why) (F.count port.old) (F.count port.new)) }
-        ensures stays_sound { StaysSound (F.sound port.old) (F.sound port.new) (F.count port.new) }
+        ensures counts { MatchResult result (λ _. Counts ⟦<F as Folder>⟧ false port.old port.new)
+            (λ refused. Counts ⟦<F as Folder>⟧ (is_disk refused.why) port.old port.new) }
     {
         let Full { mut filling } = self;
         match make_durable(&mut filling, port) {
@@ -68,9 +66,7 @@ impl<F: Folder> Full<F> {
 
     /// Gives the file back to the folder.
     pub fn give(self, port: &mut F)
-        ensures given { F.tells ≡ true → Gives (F.port port.old) (F.port port.new) self.name self.file }
-        ensures counts { F.count port.new ≡ F.count port.old }
-        ensures stays_sound { StaysSound (F.sound port.old) (F.sound port.new) (F.count port.new) }
+        ensures { GivesFile ⟦<F as Folder>⟧ port.old port.new self.name self.file }
     {
         let Full { filling } = self;
         filling.give(port);
@@ -85,8 +81,7 @@ fn make_durable<F: Folder>(chunk: &mut Filling<F>, port: &mut F) -> Result<(), F
     ensures idle { F.tells ≡ true → chunk.old.unsynced ≡ false → (F.port port.old).fixed chunk.old.name ≡ true
         → IsOk result × (port.new ≡ port.old) }
     ensures port { F.tells ≡ true → SealsAt result (F.port port.old) (F.port port.new) chunk.old.name }
-    ensures counts { CountsFault (is_fault result) (F.count port.old) (F.count port.new) }
-    ensures stays_sound { StaysSound (F.sound port.old) (F.sound port.new) (F.count port.new) }
+    ensures counts { Counts ⟦<F as Folder>⟧ (is_fault result) port.old port.new }
 {
     chunk.sync(port)?;
     if chunk.mark(port) {

@@ -1,8 +1,7 @@
 //! A chunk whose bytes and name a crash keeps.
 
 ghost use Rattle.std.specs.Prelude.{◌≡◌, true, Some};
-ghost use Rattle.dir_files.specs.Faults.{StaysSound};
-ghost use Rattle.dir_files.specs.Ports.{Gives};
+ghost use Rattle.dir_files.specs.PortCalls.{GivesFile};
 ghost use Rattle.value_chunk.specs.Chunks.{IsSealed};
 
 use crate::filling::Filling;
@@ -40,9 +39,7 @@ impl<F: Folder> Sealed<F> {
 
     /// Gives the file back to the folder.
     pub fn give(self, port: &mut F)
-        ensures given { F.tells ≡ true → Gives (F.port port.old) (F.port port.new) self.name self.file }
-        ensures counts { F.count port.new ≡ F.count port.old }
-        ensures stays_sound { StaysSound (F.sound port.old) (F.sound port.new) (F.count port.new) }
+        ensures { GivesFile ⟦<F as Folder>⟧ port.old port.new self.name self.file }
     {
         let Sealed { filling } = self;
         filling.give(port);
