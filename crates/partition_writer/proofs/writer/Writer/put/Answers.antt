@@ -1,4 +1,4 @@
-use Rattle.std.proofs.Common.{◌≡◌, ◌∙◌, List, ℕ, ap, rules, arith}
+use Rattle.std.proofs.Common.{◌∙◌, List, ℕ, ap, rules, arith}
 use Rattle.record_format.specs.Laws.{spelling_length}
 use Rattle.partition_writer.specs.Standing.{put_record}
 use Rattle.partition_writer.proofs.LimitLaws.{put_limits}
