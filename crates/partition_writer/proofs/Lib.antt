@@ -2,5 +2,5 @@ mod CloseLaws
 mod LimitLaws
 mod NumberLaws
 mod OneChunkLaws
-mod StandingLaws
+pub mod StandingLaws
 mod StoredLaws

@@ -1,6 +1,6 @@
 -- Records with rising numbers, cut in two.
-use Rattle.std.specs.Prelude.{◌≡◌, ◌⊎◌, ℕ, zero, suc, ◌+◌, ◌<◌, ◌≤◌, List, [], ◌∷◌, ◌++◌, take, refl}
-use Rattle.std.proofs.Common.{sym, ap, subst, inl, inr, arith}
+use Rattle.std.specs.Prelude.{◌⊎◌, ℕ, zero, suc, ◌+◌, ◌<◌, ◌≤◌, List, [], ◌∷◌, ◌++◌, take, refl}
+use Rattle.std.proofs.Common.{ap, inl, inr, arith}
 use Rattle.record_format.specs.declared.record.Record.{Record}
 use Rattle.record_format.specs.Spelling.{seq_of}
 use Rattle.crash_law.specs.Numbered.{Rising, IsSublist, IsIn}

@@ -1,5 +1,5 @@
 -- What every crash leaves of a partition whose records stand in one chunk of values.
-use Rattle.std.specs.Prelude.{◌≡◌, ◌≢◌, ◌⊎◌, ℕ, ◌<◌, ◌≤◌, ◌↔◌, true, false, List, [], ◌++◌, length, take, Contains, Option, Some, None, refl}
+use Rattle.std.specs.Prelude.{◌≡◌, ◌⊎◌, ℕ, ◌<◌, ◌≤◌, true, false, List, [], ◌++◌, length, take, Contains, Option, Some, None, refl}
 use Rattle.std.proofs.Common.{sym, ◌∙◌, ap, subst, inl, inr, arith, length-append}
 use Rattle.std.specs.FinMap as map
 use Rattle.hr_base.specs.declared.limits.TheConstants.{MAX_FILE_LEN}
@@ -13,15 +13,20 @@ use Rattle.hr_base.proofs.NameTestLaws.{same_name_or_not}
 use Rattle.dir_files.specs.Files.{FileState, Files}
 use Rattle.dir_files.specs.Images.{Image, MayLeave, KeepsFront}
 use Rattle.record_format.specs.declared.record.Record.{Record}
-use Rattle.record_format.specs.Spelling.{seq_of, spellings}
+use Rattle.record_format.specs.Spelling.{seq_of}
 use Rattle.record_format.specs.Splits.{Splits, IsTorn}
 use Rattle.record_format.proofs.SplitLaws.{one_split}
 use Rattle.crash_law.specs.Accounts.{Account, Fits}
+<<<<<<< HEAD
 use Rattle.crash_law.specs.Chunks.{HoldsRecords, LeavesFront}
 use Rattle.crash_law.specs.Commands.{Command, command_of, touches, state_of, state_after_all, maps_after_all}
+=======
+use Rattle.crash_law.specs.Chunks.{IsChunk, LeavesFront}
+use Rattle.crash_law.specs.Commands.{Command, state_after_all}
+>>>>>>> 29b3259e6286a0d6020d2d754e93bcf53fa70201
 use Rattle.crash_law.specs.Crashes.{Kept, Recovers, IsImageOfPart, PartSurvives}
 use Rattle.crash_law.specs.Numbered.{Rising, IsIn, commands_of}
-use Rattle.crash_law.specs.Restarts.{Fact, IsDeciding, IsRestartOf, IsSoundPart}
+use Rattle.crash_law.specs.Restarts.{Fact, IsRestartOf, IsSoundPart}
 use Rattle.crash_law.proofs.ChunkLaws.{leaves_front}
 use Rattle.crash_law.proofs.CommandLaws.{get-maps_after_all}
 use Rattle.crash_law.proofs.KeptLaws.{kept_maps, kept_restart, kept_fits}

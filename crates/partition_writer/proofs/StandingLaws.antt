@@ -1,20 +1,28 @@
 -- How what a writer stands for changes with its calls.
-use Rattle.std.specs.Prelude.{◌≡◌, ℕ, ◌+◌, ◌<◌, ◌≤◌, Bool, true, false, List, [], ◌∷◌, ◌++◌, length, All, Contains, Option, Some, None, is_none, if◌then◌else◌, refl}
+use Rattle.std.specs.Prelude.{◌≡◌, ℕ, ◌+◌, ◌-◌, ◌<◌, ◌≤◌, Bool, true, false, List, [], ◌∷◌, ◌++◌, length, take, All, Contains, Option, Some, None, is_none, if◌then◌else◌, refl}
 use Rattle.std.proofs.Common.{sym, ◌∙◌, ap, subst, arith, append_assoc, length-append}
-use Rattle.std.proofs.lemmas.List.{map-append, append-nil, flat_map_more, nil_from_length}
-use Rattle.std.proofs.lemmas.List.Elements.{All-nil, All-push, All-weaker, All-head, All-tail, Contains-append_right}
+use Rattle.std.proofs.lemmas.List.{map-append, append-nil, flat_map_more, nil_from_length, take_at}
+use Rattle.std.proofs.lemmas.Grind.{flat_map-append}
+use Rattle.std.proofs.Math.Seq.{take-append-add}
+use Rattle.std.proofs.lemmas.List.Elements.{All-nil, All-push, All-weaker, All-head, All-tail, Contains-append_left, Contains-append_right}
 use Rattle.std.specs.FinMap as map
 use Rattle.hr_base.specs.declared.name.Class.TheVariants.{Value as Values}
 use Rattle.hr_base.specs.Entries.{Entries}
 use Rattle.record_format.specs.declared.record.Record.{Record}
 use Rattle.record_format.specs.Spelling.{seq_of, spelling, spellings}
+<<<<<<< HEAD
 use Rattle.record_format.specs.Splits.{IsOfClass, Splits}
 use Rattle.record_format.proofs.SplitLaws.{spelling_fills, whole_spellings_split}
+=======
+use Rattle.record_format.specs.Splits.{IsOfClass}
+use Rattle.record_format.specs.Prefixes.{PrefixSplit}
+use Rattle.record_format.specs.Laws.{spelling_fills, a_prefix_splits}
+>>>>>>> 29b3259e6286a0d6020d2d754e93bcf53fa70201
 use Rattle.crash_law.specs.Accounts.{Account, fresh_account, answered, refused, synced}
 use Rattle.crash_law.specs.Commands.{Command, Put, command_of, maps_after, maps_after_all}
 use Rattle.crash_law.specs.Numbered.{Rising, commands_of}
 use Rattle.partition_writer.specs.Stored.{first_chunk, Handle, ChunkState, StoredAt, Stores, KeepsStored, StoresMore, StoresFront, StoresDurably}
-use Rattle.partition_writer.specs.Standing.{Standing, StandsFor, put_record, Writes, Puts, LosesPut, KeepsRecords, Syncs, HoldsTail}
+use Rattle.partition_writer.specs.Standing.{Standing, StandsFor, put_record, Writes, Puts, LosesPut, KeepsRecords, Syncs, IsWhole, HoldsTail}
 
 -- a writer that begins stands for empty maps
 pub stand_begin : (s : Standing) → s.maps ≡ map.empty → s.records ≡ [] → s.lost ≡ false → Stores s.chunk 0 [] [] → StandsFor s (fresh_account map.empty) 0
@@ -240,34 +248,80 @@ stand_synced s t a size h running syncs stores =
 
 -- ---- whole records
 
--- what a file holds of which nothing is missing
-record HoldsWhole (handle : Option Handle) (bytes : List ℕ) : Type 0 where
+-- the file, where more bytes are stored than are missing
+record HasFile (handle : Option Handle) (bytes missing : List ℕ) : Type 0 where
   file : Handle
   out : handle ≡ Some file
   named : file.name ≡ Some first_chunk
-  content : file.file.bytes ≡ bytes
+  content : bytes ≡ file.file.bytes ++ missing
 
-holds_at : (s : ChunkState) (handle : Option Handle) (durable : ℕ) (bytes : List ℕ) → 0 < length bytes → StoredAt s handle durable bytes [] → HoldsWhole handle bytes
-holds_at s None durable bytes some h = absurd (omega (arith, some, ap length h.content))
-holds_at s (Some x) durable bytes some h = record { file = x; out = refl; named = h.name; content = sym (h.content ∙ append-nil x.file.bytes) }
+file_at : (s : ChunkState) (handle : Option Handle) (durable : ℕ) (bytes missing : List ℕ) → length missing < length bytes → StoredAt s handle durable bytes missing → HasFile handle bytes missing
+file_at s None durable bytes missing some h = absurd (omega (arith, some, ap length h.content))
+file_at s (Some x) durable bytes missing some h = record { file = x; out = refl; named = h.name; content = h.content }
 
 some_bytes : (rs : List Record) (r : Record) → Contains rs r → 0 < length (spellings rs)
 some_bytes [] r h = absurd (omega (arith, h.1))
 some_bytes (x ∷ xs) r h = omega (arith, spelling_fills x, length-append (spelling x) (spellings xs))
 
+-- the record of each command but a lost one is whole in the file
+module _ (s : Standing) (a : Account) (size : ℕ) (h : StandsFor s a size) where
+  abbrev all : List Record
+  all = h.durable ++ s.records
+
+  abbrev whole : List Record
+  whole = h.durable ++ h.kept
+
+  all_is : all ≡ whole ++ h.lost
+  all_is = ap (λ (rs : List Record). h.durable ++ rs) h.records ∙ sym (append_assoc h.durable h.kept h.lost)
+
+  all_length : length (spellings all) ≡ length (spellings whole) + length (spellings h.lost)
+  all_length = ap (λ (rs : List Record). length (spellings rs)) all_is ∙ ap length (flat_map-append spelling whole h.lost) ∙ length-append (spellings whole) (spellings h.lost)
+
+  pub kept_whole : (r : Record) → Contains h.kept r → IsWhole s r
+  kept_whole r has =
+      let there : Contains whole r = Contains-append_right h.durable h.kept r has in
+      let file = file_at s.chunk s.chunk.handle _ (spellings all) h.missing (omega (arith, all_length, some_bytes whole r there, h.whole)) h.stores.at in
+      let front : PrefixSplit Values all file.file.file.bytes = a_prefix_splits Values all file.file.file.bytes h.missing h.valid file.content in
+      let first : take (length whole) all ≡ whole = ap (λ (rs : List Record). take (length whole) rs) all_is ∙ take_at whole h.lost (length whole) refl in
+      let enough : length whole ≤ front.count =
+      front.most (length whole) (omega (arith, ap length all_is, length-append whole h.lost))
+      (omega (arith, ap (λ (rs : List Record). length (spellings rs)) first, all_length, h.whole, ap length file.content, length-append file.file.file.bytes h.missing)) in
+      let count : front.count ≡ length whole + (front.count - length whole) = omega (arith, enough) in
+      let cut : take front.count all ≡ whole ++ take (front.count - length whole) h.lost =
+      ap (λ (rs : List Record). take front.count rs) all_is ∙ ap (λ (n : ℕ). take n (whole ++ h.lost)) count ∙ take-append-add whole h.lost (front.count - length whole) in
+      record {
+        handle = file.file;
+        name = first_chunk;
+        records = take front.count all;
+        rest = front.left;
+        out = file.out;
+        named = file.named;
+        split = front.split;
+        has = subst (λ (rs : List Record). Contains rs r) (sym cut) (Contains-append_left whole (take (front.count - length whole) h.lost) r there);
+      }
+
 -- where no record may lack bytes, that of each command of the tail is whole in the file
 pub holds_tail : (s : Standing) (a : Account) (size : ℕ) → StandsFor s a size → s.lost ≡ false → HoldsTail s
-holds_tail s a size h none r has =
-    let all : List Record = h.durable ++ s.records in
-    let there : Contains all r = Contains-append_right h.durable s.records r has in
-    let whole = holds_at s.chunk s.chunk.handle _ (spellings all) (some_bytes all r there) (stores_whole s a size h none).at in
-    record {
-      handle = whole.file;
-      name = first_chunk;
-      records = all;
-      rest = [];
-      out = whole.out;
-      named = whole.named;
-      split = subst (λ (bytes : List ℕ). Splits Values bytes all []) (sym whole.content) (whole_spellings_split Values all h.valid);
-      has = there;
-    }
+holds_tail s a size h none r has = kept_whole s a size h r (subst (λ (rs : List Record). Contains rs r) (sym (all_kept s a size h none)) has)
+
+-- a larger bound serves too
+pub StandsFor-more : (s : Standing) (a : Account) (size more : ℕ) → StandsFor s a size → size ≤ more → StandsFor s a more
+StandsFor-more s a size more h fits = record {
+  durable = h.durable;
+  kept = h.kept;
+  lost = h.lost;
+  missing = h.missing;
+  records = h.records;
+  one_lost = h.one_lost;
+  lost_halts = h.lost_halts;
+  maps = h.maps;
+  tail = h.tail;
+  durable_maps = h.durable_maps;
+  kept_maps = h.kept_maps;
+  valid = h.valid;
+  rising = h.rising;
+  below = h.below;
+  within = omega (arith, h.within, fits);
+  stores = h.stores;
+  whole = h.whole;
+}

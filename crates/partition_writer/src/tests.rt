@@ -102,7 +102,12 @@ fn make_steps(
 ) -> Result<(), Fail> {
     for step in &STEPS {
         let before = put(rt, writer, step)?;
-        assert_eq!(rt; before.as_ref().map(|v| v.as_slice()), step.before, "{}", step.name);
+        assert_eq!(rt;
+            before.as_ref().map(|v| v.as_slice()),
+            step.before,
+            "{}",
+            step.name
+        );
         expect_value(rt, writer, step);
         spelled.extend_from_slice(step.spelled)?;
     }

@@ -136,7 +136,7 @@ impl<F: Folder> Writer<F> {
             ↔ ((standing self.old).halted ≡ Some at) }
         ensures spent { (next : ℕ) → IsErrOf result (WriteRefusal.Spent next)
             ↔ (((standing self.old).halted ≡ None)
-                × ((standing self.old).next ≡ SEQ_END) × (next ≡ SEQ_END)) }
+            × ((standing self.old).next ≡ SEQ_END) × (next ≡ SEQ_END)) }
         ensures stopped { (at : ℕ) → IsErrOf result (WriteRefusal.Halted at) → self.new ≡ self.old }
         ensures full { (next : ℕ) → IsErrOf result (WriteRefusal.Spent next) → self.new ≡ self.old }
 
@@ -144,11 +144,11 @@ impl<F: Folder> Writer<F> {
         ensures account { F.tells ≡ true → (a : Account) (size : ℕ)
             → StandsFor (standing self.old) a size
             → OnOk result (StandsFor (standing self.new) (answered a (Put prefix key.now value.now))
-                (size + record_length Values (length key.now) (length value.now))) }
+            (size + record_length Values (length key.now) (length value.now))) }
         ensures lost { F.tells ≡ true → (a : Account) (size : ℕ)
             → StandsFor (standing self.old) a size → IsErrOf result WriteRefusal.DiskFault
             → StandsFor (standing self.new) (refused a (Put prefix key.now value.now))
-                (size + record_length Values (length key.now) (length value.now)) }
+            (size + record_length Values (length key.now) (length value.now)) }
         ensures same { F.tells ≡ true → (a : Account) (size : ℕ)
             → StandsFor (standing self.old) a size → IsErrOf result WriteRefusal.Memory
             → StandsFor (standing self.new) a size }
@@ -235,7 +235,11 @@ impl<F: Folder> Writer<F> {
         ensures account { F.tells ≡ true → (a : Account) (size : ℕ)
             → StandsFor (standing self.old) a size
             → OnOk result (StandsFor (standing self.new) (synced a) size
+<<<<<<< HEAD
                 × IsAllDurable (standing self.new).chunk.handle) }
+=======
+            × IsDurable (standing self.new).chunk.handle) }
+>>>>>>> 29b3259e6286a0d6020d2d754e93bcf53fa70201
         ensures same { F.tells ≡ true → (a : Account) (size : ℕ)
             → StandsFor (standing self.old) a size
             → OnErr result (StandsFor (standing self.new) a size) }

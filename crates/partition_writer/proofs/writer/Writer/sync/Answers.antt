@@ -1,4 +1,4 @@
-use Rattle.std.proofs.Common.{rules, refl}
+use Rattle.std.proofs.Common.{rules}
 use Rattle.partition_writer.proofs.StandingLaws.{stand_synced, stores_whole}
 use Rattle.partition_writer.proofs.writer.Writer.sync.Goals as goal
 
