@@ -7,15 +7,15 @@ use Rattle.std.proofs.lemmas.List.{append-nil}
 use Rattle.hr_base.specs.Entries.{Entries}
 use Rattle.hr_base.specs.declared.name.ChunkName.{ChunkName}
 use Rattle.hr_base.proofs.NameTestLaws.{same_name_or_not}
-use Rattle.hr_edges.specs.Edges.{IsRead, Takes}
+use Rattle.hr_edges.specs.Edges.{Takes}
 use Rattle.hr_edges.proofs.Writings.{Takes-append}
 use Rattle.dir_files.specs.Files.{FileState, Files, named_file}
 use Rattle.dir_files.specs.Images.{Image, IsImage, MayLeave, read_of}
 use Rattle.dir_files.specs.Ports.{Port, SamePort, CanJoin, Joins, SyncsNames, IsListing, either_file}
 use Rattle.dir_files.specs.PortStates.{IsCalm, IsGivenBack, IsVacant}
 use Rattle.crash_law.specs.Accounts.{Account, fresh_account}
-use Rattle.crash_law.specs.Crashes.{AllRecover, AllSurvive, IsImageOfPart, PartSurvives, Recovers}
-use Rattle.crash_law.specs.Restarts.{AllRestart, IsRestartable, IsSoundPart, IsRestartOf, Fact, RestartsAs}
+use Rattle.crash_law.specs.Crashes.{AllSurvive, PartSurvives, Recovers}
+use Rattle.crash_law.specs.Restarts.{AllRestart, IsSoundPart, IsRestartOf, Fact, RestartsAs}
 use Rattle.script_text.specs.declared.line.Line.{Line}
 use Rattle.script_text.specs.Replies.{replies}
 use Rattle.partition_writer.specs.Standing.{Standing, StandsFor}
@@ -23,7 +23,6 @@ use Rattle.partition_writer.specs.Stored.{first_chunk}
 use Rattle.hotrestart_cli.specs.declared.ended.Ended.{Ended}
 use Rattle.hotrestart_cli.specs.declared.ended.Ended.TheVariants.{Whole, Words, TooLong, Line as BadLine, Input, Sink, Disk, NotBuilt, Memory}
 use Rattle.hotrestart_cli.specs.Outcome.{IsSessionEnd, IsTellable, last_line, status_of, Tells, told, no_memory, not_taken, nothing_taken}
-use Rattle.hotrestart_cli.specs.Scripts.{IsScriptOf}
 use Rattle.hotrestart_cli.specs.Session.{lines_size, accounts_at, TextAt, Played}
 use Rattle.hotrestart_cli.specs.Folders.{IsFirstHeld, Ran, RanScript, Because, Served, WasDone, WasRefused, WasNotBuilt}
 

@@ -1,5 +1,5 @@
 -- The first of the names of held files.
-use Rattle.std.proofs.Common.{◌≡◌, refl, sym, subst}
+use Rattle.std.proofs.Common.{refl, sym, subst}
 use Rattle.std.specs.Prelude.{Option, Some, None, IsSome}
 use Rattle.std.specs.Option.{option_map}
 use Rattle.hr_base.specs.declared.name.ChunkName.{ChunkName}

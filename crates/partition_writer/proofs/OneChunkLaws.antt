@@ -17,13 +17,8 @@ use Rattle.record_format.specs.Spelling.{seq_of}
 use Rattle.record_format.specs.Splits.{Splits, IsTorn}
 use Rattle.record_format.proofs.SplitLaws.{one_split}
 use Rattle.crash_law.specs.Accounts.{Account, Fits}
-<<<<<<< HEAD
 use Rattle.crash_law.specs.Chunks.{HoldsRecords, LeavesFront}
-use Rattle.crash_law.specs.Commands.{Command, command_of, touches, state_of, state_after_all, maps_after_all}
-=======
-use Rattle.crash_law.specs.Chunks.{IsChunk, LeavesFront}
 use Rattle.crash_law.specs.Commands.{Command, state_after_all}
->>>>>>> 29b3259e6286a0d6020d2d754e93bcf53fa70201
 use Rattle.crash_law.specs.Crashes.{Kept, Recovers, IsImageOfPart, PartSurvives}
 use Rattle.crash_law.specs.Numbered.{Rising, IsIn, commands_of}
 use Rattle.crash_law.specs.Restarts.{Fact, IsRestartOf, IsSoundPart}

@@ -10,19 +10,14 @@ use Rattle.hr_base.specs.declared.name.Class.TheVariants.{Value as Values}
 use Rattle.hr_base.specs.Entries.{Entries}
 use Rattle.record_format.specs.declared.record.Record.{Record}
 use Rattle.record_format.specs.Spelling.{seq_of, spelling, spellings}
-<<<<<<< HEAD
-use Rattle.record_format.specs.Splits.{IsOfClass, Splits}
-use Rattle.record_format.proofs.SplitLaws.{spelling_fills, whole_spellings_split}
-=======
 use Rattle.record_format.specs.Splits.{IsOfClass}
 use Rattle.record_format.specs.Prefixes.{PrefixSplit}
-use Rattle.record_format.specs.Laws.{spelling_fills, a_prefix_splits}
->>>>>>> 29b3259e6286a0d6020d2d754e93bcf53fa70201
+use Rattle.record_format.proofs.SplitLaws.{spelling_fills, a_prefix_splits}
 use Rattle.crash_law.specs.Accounts.{Account, fresh_account, answered, refused, synced}
 use Rattle.crash_law.specs.Commands.{Command, Put, command_of, maps_after, maps_after_all}
 use Rattle.crash_law.specs.Numbered.{Rising, commands_of}
 use Rattle.partition_writer.specs.Stored.{first_chunk, Handle, ChunkState, StoredAt, Stores, KeepsStored, StoresMore, StoresFront, StoresDurably}
-use Rattle.partition_writer.specs.Standing.{Standing, StandsFor, put_record, Writes, Puts, LosesPut, KeepsRecords, Syncs, IsWhole, HoldsTail}
+use Rattle.partition_writer.specs.Standing.{Standing, StandsFor, put_record, Writes, Puts, LosesPut, KeepsRecords, Syncs, HoldsRecord, HoldsTail}
 
 -- a writer that begins stands for empty maps
 pub stand_begin : (s : Standing) → s.maps ≡ map.empty → s.records ≡ [] → s.lost ≡ false → Stores s.chunk 0 [] [] → StandsFor s (fresh_account map.empty) 0
@@ -277,7 +272,7 @@ module _ (s : Standing) (a : Account) (size : ℕ) (h : StandsFor s a size) wher
   all_length : length (spellings all) ≡ length (spellings whole) + length (spellings h.lost)
   all_length = ap (λ (rs : List Record). length (spellings rs)) all_is ∙ ap length (flat_map-append spelling whole h.lost) ∙ length-append (spellings whole) (spellings h.lost)
 
-  pub kept_whole : (r : Record) → Contains h.kept r → IsWhole s r
+  pub kept_whole : (r : Record) → Contains h.kept r → HoldsRecord s r
   kept_whole r has =
       let there : Contains whole r = Contains-append_right h.durable h.kept r has in
       let file = file_at s.chunk s.chunk.handle _ (spellings all) h.missing (omega (arith, all_length, some_bytes whole r there, h.whole)) h.stores.at in

@@ -1,5 +1,5 @@
 -- What a writer stands for.
-use Rattle.std.specs.Prelude.{◌≡◌, ℕ, ◌+◌, ◌<◌, ◌≤◌, Bool, true, false, List, [], ◌∷◌, ◌++◌, length, All, Contains, Option, Some, None, is_none, if◌then◌else◌}
+use Rattle.std.specs.Prelude.{◌≡◌, ℕ, ◌+◌, ◌<◌, ◌≤◌, Bool, true, false, List, [], ◌∷◌, ◌++◌, length, All, Contains, Option, Some, is_none, if◌then◌else◌}
 use Rattle.std.specs.FinMap as map
 use Rattle.hr_base.specs.declared.name.Class.TheVariants.{Value as Values}
 use Rattle.hr_base.specs.declared.name.ChunkName.{ChunkName}

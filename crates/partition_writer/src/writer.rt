@@ -235,11 +235,7 @@ impl<F: Folder> Writer<F> {
         ensures account { F.tells ≡ true → (a : Account) (size : ℕ)
             → StandsFor (standing self.old) a size
             → OnOk result (StandsFor (standing self.new) (synced a) size
-<<<<<<< HEAD
-                × IsAllDurable (standing self.new).chunk.handle) }
-=======
-            × IsDurable (standing self.new).chunk.handle) }
->>>>>>> 29b3259e6286a0d6020d2d754e93bcf53fa70201
+            × IsAllDurable (standing self.new).chunk.handle) }
         ensures same { F.tells ≡ true → (a : Account) (size : ℕ)
             → StandsFor (standing self.old) a size
             → OnErr result (StandsFor (standing self.new) a size) }

@@ -4,7 +4,7 @@ use Rattle.std.specs.List.{flat_map}
 use Rattle.std.proofs.lemmas.Bool.{cases_Bool}
 use Rattle.std.proofs.lemmas.Bool.Decides.{nat_tests}
 use Rattle.std.proofs.lemmas.List.Elements.{All-head, All-tail, All-cons, All-append}
-use Rattle.script_text.specs.Fields.{bytes_of, digit_value}
+use Rattle.script_text.specs.Fields.{bytes_of, upper_digit_value}
 use Rattle.script_text.specs.Texts.{byte_text, is_plain, text_of, upper_digit}
 
 -- a byte's text where it stands for itself, and where not
@@ -23,8 +23,8 @@ plain_other b plain e = grind (arith, nat_tests)
 upper_digit_visible : (d : ℕ) → 33 ≤ upper_digit d
 upper_digit_visible d = grind (arith, nat_tests)
 
-pub digit_value-upper_digit : (d : ℕ) → d < 16 → digit_value (upper_digit d) ≡ d
-digit_value-upper_digit d h = grind (arith, nat_tests)
+pub upper_digit_value-upper_digit : (d : ℕ) → d < 16 → upper_digit_value (upper_digit d) ≡ d
+upper_digit_value-upper_digit d h = grind (arith, nat_tests)
 
 none_below : (n : ℕ) → All (λ b. n ≤ b) []
 none_below n k d h = absurd (omega arith)
@@ -56,9 +56,9 @@ bytes_of-plain a (b ∷ c ∷ rest) other = grind (arith, nat_tests)
 
 bytes_of-escaped : (b : ℕ) (rest : List ℕ) → b < 256 → bytes_of (37 ∷ upper_digit (b / 16) ∷ upper_digit (b % 16) ∷ rest) ≡ b ∷ bytes_of rest
 bytes_of-escaped b rest small =
-    let high = digit_value-upper_digit (b / 16) (omega arith) in
-    let low = digit_value-upper_digit (b % 16) (omega arith) in
-    let whole : digit_value (upper_digit (b / 16)) * 16 + digit_value (upper_digit (b % 16)) ≡ b = omega (arith, high, low) in
+    let high = upper_digit_value-upper_digit (b / 16) (omega arith) in
+    let low = upper_digit_value-upper_digit (b % 16) (omega arith) in
+    let whole : upper_digit_value (upper_digit (b / 16)) * 16 + upper_digit_value (upper_digit (b % 16)) ≡ b = omega (arith, high, low) in
     ap (λ n. n ∷ bytes_of rest) whole
 
 pub bytes_of-byte_text : (b : ℕ) (rest : List ℕ) → b < 256 → bytes_of (byte_text b ++ rest) ≡ b ∷ bytes_of rest

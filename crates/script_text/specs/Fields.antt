@@ -19,15 +19,15 @@ pub record BeginsAsNumber (digits : List ℕ) : Type 0 where
   pub alone : slice_index digits 0 ≡ 48 → length digits ≡ 1
 
 -- the value of an upper-case hexadecimal digit
-abbrev pub digit_value : ℕ → ℕ
-digit_value c = if nat_lt c 58 then c - 48 else c - 55
+abbrev pub upper_digit_value : ℕ → ℕ
+upper_digit_value c = if nat_lt c 58 then c - 48 else c - 55
 
 -- the bytes that a text stands for
 abbrev pub bytes_of : List ℕ → List ℕ
 bytes_of [] = []
 bytes_of (a ∷ []) = if a == 37 then [] else a ∷ []
 bytes_of (a ∷ b ∷ []) = a ∷ bytes_of (b ∷ [])
-bytes_of (a ∷ b ∷ c ∷ rest) = if a == 37 then (digit_value b * 16 + digit_value c) ∷ bytes_of rest else a ∷ bytes_of (b ∷ c ∷ rest)
+bytes_of (a ∷ b ∷ c ∷ rest) = if a == 37 then (upper_digit_value b * 16 + upper_digit_value c) ∷ bytes_of rest else a ∷ bytes_of (b ∷ c ∷ rest)
 
 -- the bytes that a key or a value in a line stands for
 abbrev pub word_bytes : Word → List ℕ

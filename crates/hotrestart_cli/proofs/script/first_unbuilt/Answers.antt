@@ -1,4 +1,4 @@
-use Rattle.std.proofs.Common.{◌≡◌, true, false, ◌∙◌, sym}
+use Rattle.std.proofs.Common.{◌≡◌, true, false}
 use Rattle.hotrestart_cli.specs.Scripts.{is_built}
 use Rattle.hotrestart_cli.proofs.ScriptLaws.{unbuilt_found, built_more, built_all}
 use Rattle.hotrestart_cli.proofs.script.first_unbuilt.Goals as goal

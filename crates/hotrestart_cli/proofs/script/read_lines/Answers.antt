@@ -1,5 +1,4 @@
 use Rattle.std.proofs.Common.{arith}
-use Rattle.hr_edges.proofs.Readings.{is_read}
 use Rattle.hotrestart_cli.proofs.Sizes.{script_fits}
 use Rattle.hotrestart_cli.proofs.script.read_lines.Goals as goal
 

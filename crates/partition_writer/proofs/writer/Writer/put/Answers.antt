@@ -1,10 +1,5 @@
-<<<<<<< HEAD
-use Rattle.std.proofs.Common.{◌≡◌, ◌∙◌, List, ℕ, ap, rules, arith}
-use Rattle.record_format.proofs.SplitLaws.{spelling_length}
-=======
 use Rattle.std.proofs.Common.{◌∙◌, List, ℕ, ap, rules, arith}
-use Rattle.record_format.specs.Laws.{spelling_length}
->>>>>>> 29b3259e6286a0d6020d2d754e93bcf53fa70201
+use Rattle.record_format.proofs.SplitLaws.{spelling_length}
 use Rattle.partition_writer.specs.Standing.{put_record}
 use Rattle.partition_writer.proofs.LimitLaws.{put_limits}
 use Rattle.partition_writer.proofs.StandingLaws.{stand_put, stand_lost, stand_kept, holds_tail}
