@@ -29,7 +29,7 @@ pub struct RamMap {
 impl Model for RamMap {
     ghost use Rattle.std.specs.Vec.{vec_items};
     ghost use Rattle.ram_map.specs.Maps.{Maps, coded_maps};
-    ghost use Rattle.ram_map.specs.Nested.{all_entries, IsSound};
+    ghost use Rattle.ram_map.specs.Nested.{all_entries, IsConsistent};
 
     ghost Value = { Maps };
 
@@ -37,7 +37,7 @@ impl Model for RamMap {
 
     ghost view = { λ m. record { entries = all_entries vec_items m.maps.entries; ready = m.ready } };
 
-    ghost invariant = { λ m. IsSound vec_items m.maps m.ready m.size };
+    ghost invariant = { λ m. IsConsistent vec_items m.maps m.ready m.size };
 }
 
 impl RamMap {
