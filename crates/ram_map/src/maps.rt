@@ -17,8 +17,9 @@ use std::marker::Model;
 
 /// The maps of a partition: for each prefix a map from keys to values, which are shared.
 ///
-/// `reserve` makes room for one new key under a prefix, so that a `set` there takes no memory. A key that has a value needs no room.
-/// There are no more keys than a `usize` counts: `reserve` finds no memory for one more.
+/// `reserve` makes room for one new key under a prefix, so that a `set` there takes no memory.
+/// A key that has a value needs no room. There are no more keys than a `usize` counts:
+/// `reserve` finds no memory for one more.
 #[derive(Drop)]
 pub struct RamMap {
     maps: Nested,
@@ -107,7 +108,8 @@ impl RamMap {
         before
     }
 
-    /// Takes all keys of a prefix out, and answers how many there were. Room that was made under the prefix goes with them.
+    /// Takes all keys of a prefix out, and answers how many there were.
+    /// Room that was made under the prefix goes with them.
     pub fn clear(&mut self, prefix: u64) -> u64
         ensures count { result ≡ count_under prefix self.old.entries }
         ensures entries { self.new.entries ≡ without_prefix prefix self.old.entries }
