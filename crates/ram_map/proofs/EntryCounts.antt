@@ -1,10 +1,9 @@
 -- How many keys the maps have, under all prefixes and under one.
 use Rattle.std.specs.Prelude.{◌≡◌, ℕ, ◌==◌, ◌+◌, ◌-◌, ◌^◌, ◌<◌, ◌≤◌, Bool, true, false, not, cond, List, Option, None, Some, is_some, IsSome, option_map, refl}
 use Rattle.std.proofs.Common.{sym, ◌∙◌, ap, add-zero, arith}
-use Rattle.std.specs.FinMap.{empty, get, insert, remove, len, empty_of_len, len-insert, len-remove, get-retain_keys}
-use Rattle.std.specs.declared.cmp.Ordering.TheVariants.{Equal}
+use Rattle.std.specs.FinMap.{get, insert, remove, len, empty_of_len, len-insert, len-remove, get-retain_keys}
 use Rattle.std.specs.Int.{from_bool}
-use Rattle.hr_base.specs.Entries.{Key, Content, Entries, key_cmp, content_of, count_under, without_prefix}
+use Rattle.hr_base.specs.Entries.{Key, Content, Entries, content_of, count_under, without_prefix}
 use Rattle.hr_base.proofs.EntryLaws.{key_total, key_exact, get-empty-entries}
 use Rattle.ram_map.proofs.FinMaps.{count_by_both}
 

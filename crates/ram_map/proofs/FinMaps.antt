@@ -1,7 +1,7 @@
 -- Finite maps with a part of their keys, and how their entries follow from a list of them.
-use Rattle.std.specs.Prelude.{◌≡◌, ℕ, suc, ◌+◌, ◌≤◌, Bool, true, false, ◌&&◌, not, cond, T, List, [], ◌∷◌, length, map, count_by, Option, None, Some, refl}
-use Rattle.std.proofs.Common.{sym, ◌∙◌, ap, subst, arith}
-use Rattle.std.specs.FinMap.{FinMap, IsAntisymmetric, entries, entries_sorted, empty, get, insert, retain_keys, len, keys, from_entries, from_sorted, find, put, is_sorted, get-empty, get-entries, len-entries, len-empty, empty_of_len, get-retain_keys, get-from_sorted, get-from_entries, entries-from_sorted, entries-insert, same_map}
+use Rattle.std.specs.Prelude.{◌≡◌, suc, ◌+◌, Bool, true, false, ◌&&◌, not, cond, T, List, [], ◌∷◌, length, map, count_by, None, Some, refl}
+use Rattle.std.proofs.Common.{sym, ◌∙◌, ap, subst}
+use Rattle.std.specs.FinMap.{FinMap, IsAntisymmetric, entries, entries_sorted, empty, retain_keys, len, keys, from_entries, from_sorted, find, put, is_sorted, get-entries, len-entries, len-empty, get-retain_keys, get-from_sorted, get-from_entries, entries-from_sorted, entries-insert, same_map}
 use Rattle.std.specs.FinMap.Entries.{by_order, where_key, below_all, is_sorted-where_key, find-where_key}
 use Rattle.std.specs.Ordering.{eq_by_cmp, is_lt, is_eq}
 use Rattle.std.specs.declared.cmp.Ordering.{Ordering}
@@ -89,8 +89,8 @@ module _ {K X : Type 0} {R : K → K → Ordering} (o : IsTotalOrder R) where
     entries-retain_keys m p =
         let sorted = is_sorted-where_key R p (entries m) (entries_sorted m) in
         ap entries (same_map o exact (retain_keys m p) (from_sorted (where_key R p (entries m))) (λ q.
-            let alike : (x : K) → R q x ≡ Equal → p x ≡ p q = λ x t. ap p (sym (exact q x t)) in
-            get-retain_keys m p q alike ∙ ap (λ r. cond (p q) r None) (get-entries m q) ∙ sym (get-from_sorted R (where_key R p (entries m)) q sorted ∙ find-where_key R p q alike (entries m))))
+        let alike : (x : K) → R q x ≡ Equal → p x ≡ p q = λ x t. ap p (sym (exact q x t)) in
+        get-retain_keys m p q alike ∙ ap (λ r. cond (p q) r None) (get-entries m q) ∙ sym (get-from_sorted R (where_key R p (entries m)) q sorted ∙ find-where_key R p q alike (entries m))))
         ∙ entries-from_sorted R (where_key R p (entries m)) sorted
 
     -- as many keys are kept as pass
@@ -111,5 +111,5 @@ module _ {K X : Type 0} {R : K → K → Ordering} (o : IsTotalOrder R) where
         let sorted = sorted_from_keys R fs s in
         let equiv = eq_by_cmp_equiv o in
         ap entries (same_map o exact (from_entries es) (from_sorted fs) (λ q.
-            get-from_entries o es q ∙ find-lookup R q es ∙ sym (get-from_sorted R fs q sorted ∙ find-lookup R q fs ∙ lookup_permutation equiv es fs moves (IsDistinct-from_sorted R (keys_of fs) s) (eq_by_cmp R q) (equiv.congr q))))
+        get-from_entries o es q ∙ find-lookup R q es ∙ sym (get-from_sorted R fs q sorted ∙ find-lookup R q fs ∙ lookup_permutation equiv es fs moves (IsDistinct-from_sorted R (keys_of fs) s) (eq_by_cmp R q) (equiv.congr q))))
         ∙ entries-from_sorted R fs sorted

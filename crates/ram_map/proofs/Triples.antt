@@ -1,5 +1,5 @@
 -- Entries as triples, in the order that a sort gives them.
-use Rattle.std.specs.Prelude.{◌≡◌, ℕ, ◌+◌, ◌<◌, true, false, List, [], ◌∷◌, ◌++◌, length, map, slice_index_or, refl}
+use Rattle.std.specs.Prelude.{◌≡◌, ℕ, ◌+◌, ◌<◌, false, List, [], ◌∷◌, ◌++◌, length, map, slice_index_or, refl}
 use Rattle.std.proofs.Common.{sym, ◌∙◌, ap, subst, arith, true≢false, append_assoc}
 use Rattle.std.specs.Ordering.{nat_cmp, ordering_then, ordering_reverse, is_lt, is_eq}
 use Rattle.std.specs.declared.cmp.Ordering.{Ordering}
@@ -46,23 +46,23 @@ keys_rise : (ts : List (ℕ × List ℕ × List ℕ)) → IsDistinct is_key (key
 keys_rise ts d s =
     let t : ℕ × List ℕ × List ℕ = (0, [], []) in
     sorted_from_all_adjacent key_total (keys_of (map entry_of ts)) (key_at 0 []) (λ k h.
-        let here : k + 1 < length ts = omega (arith, h, length-map (map entry_of ts) (λ (e : Key × Content). e.0), length-map ts entry_of) in
-        let a = slice_index_or ts k t in
-        let b = slice_index_or ts (k + 1) t in
-        let apart = apart_from_distinct is_key (keys_of (map entry_of ts)) k (k + 1) (key_at 0 []) d (omega arith) h in
-        let x = key_of_entry ts k t (omega (arith, here)) in
-        let y = key_of_entry ts (k + 1) t here in
-        let rise : key_cmp (key_at a.0 a.1) (key_at b.0 b.1) ≡ Less =
-            rises (key_cmp (key_at a.0 a.1) (key_at b.0 b.1)) (key_cmp (key_at b.0 b.1) (key_at a.0 a.1)) (slice_cmp nat_cmp b.2 a.2) (key_total.antisymm (key_at b.0 b.1) (key_at a.0 a.1))
-            (ap (λ (k : Key). is_key k (key_at b.0 b.1)) (sym x) ∙ ap (λ (l : Key). is_key (slice_index_or (keys_of (map entry_of ts)) k (key_at 0 [])) l) (sym y) ∙ apart)
-            (s k t (omega arith) here) in
-        ap (λ (l : Key). key_cmp l (slice_index_or (keys_of (map entry_of ts)) (k + 1) (key_at 0 []))) x ∙ ap (key_cmp (key_at a.0 a.1)) y ∙ rise)
+    let here : k + 1 < length ts = omega (arith, h, length-map (map entry_of ts) (λ (e : Key × Content). e.0), length-map ts entry_of) in
+    let a = slice_index_or ts k t in
+    let b = slice_index_or ts (k + 1) t in
+    let apart = apart_from_distinct is_key (keys_of (map entry_of ts)) k (k + 1) (key_at 0 []) d (omega arith) h in
+    let x = key_of_entry ts k t (omega (arith, here)) in
+    let y = key_of_entry ts (k + 1) t here in
+    let rise : key_cmp (key_at a.0 a.1) (key_at b.0 b.1) ≡ Less =
+    rises (key_cmp (key_at a.0 a.1) (key_at b.0 b.1)) (key_cmp (key_at b.0 b.1) (key_at a.0 a.1)) (slice_cmp nat_cmp b.2 a.2) (key_total.antisymm (key_at b.0 b.1) (key_at a.0 a.1))
+    (ap (λ (k : Key). is_key k (key_at b.0 b.1)) (sym x) ∙ ap (λ (l : Key). is_key (slice_index_or (keys_of (map entry_of ts)) k (key_at 0 [])) l) (sym y) ∙ apart)
+    (s k t (omega arith) here) in
+    ap (λ (l : Key). key_cmp l (slice_index_or (keys_of (map entry_of ts)) (k + 1) (key_at 0 []))) x ∙ ap (key_cmp (key_at a.0 a.1)) y ∙ rise)
 
 -- a sort of the triples of a list in which no key stands twice gives those of its map, in the map's order
-pub sorted_triples : (es : List (Key × Content)) (ts : List (ℕ × List ℕ × List ℕ)) → IsDistinct is_key (keys_of es) → IsPermutation (map triple_of es) ts → IsSorted triple_cmp ts
+pub triples_in_order : (es : List (Key × Content)) (ts : List (ℕ × List ℕ × List ℕ)) → IsDistinct is_key (keys_of es) → IsPermutation (map triple_of es) ts → IsSorted triple_cmp ts
     → ts ≡ map triple_of (entries (from_entries {R = key_cmp} es))
 unfolding entry_of
-sorted_triples es ts d moves s =
+triples_in_order es ts d moves s =
     let moved = subst (λ (l : List (Key × Content)). IsPermutation l (map entry_of ts)) (map-map-back triple_of entry_of (λ e. refl) es) (IsPermutation-map entry_of _ _ moves) in
     let distinct = IsDistinct-IsPermutation is_key (eq_by_cmp_equiv key_total).symm (keys_of es) (keys_of (map entry_of ts)) (IsPermutation-map (λ (e : Key × Content). e.0) _ _ moved) d in
     sym (ap (map triple_of) (entries_in_order key_total key_exact es (map entry_of ts) d moved (keys_rise ts distinct s)) ∙ map-map-back entry_of triple_of (λ t. refl) ts)

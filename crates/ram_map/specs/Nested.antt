@@ -43,7 +43,7 @@ abbrev pub triple_of : Key × Content → ℕ × List ℕ × List ℕ
 triple_of e = (e.0.prefix, e.0.bytes, e.1.value)
 
 -- What the maps in memory keep, with the prefix that room was made for and the count of all keys.
-pub record IsSound {K S T : Type 0} (bytes : K → List ℕ) (maps : HashMap ℕ (HashMap K (List ℕ) S) T) (ready : Option ℕ) (size : ℕ) : Type 0 where
+pub record IsConsistent {K S T : Type 0} (bytes : K → List ℕ) (maps : HashMap ℕ (HashMap K (List ℕ) S) T) (ready : Option ℕ) (size : ℕ) : Type 0 where
   -- no prefix stands twice
   pub unique : IsUnique nat_eq maps
   -- there is room for the new key

@@ -17,8 +17,9 @@ use std::marker::Model;
 
 /// The maps of a partition: for each prefix a map from keys to values, which are shared.
 ///
-/// `reserve` makes room for one new key under a prefix, so that a `set` there takes no memory. A key that has a value needs no room.
-/// There are no more keys than a `usize` counts: `reserve` finds no memory for one more.
+/// `reserve` makes room for one new key under a prefix, so that a `set` there takes no memory.
+/// A key that has a value needs no room. There are no more keys than a `usize` counts:
+/// `reserve` finds no memory for one more.
 #[derive(Drop)]
 pub struct RamMap {
     maps: Nested,
@@ -29,7 +30,7 @@ pub struct RamMap {
 impl Model for RamMap {
     ghost use Rattle.std.specs.Vec.{vec_items};
     ghost use Rattle.ram_map.specs.Maps.{Maps, coded_maps};
-    ghost use Rattle.ram_map.specs.Nested.{all_entries, IsSound};
+    ghost use Rattle.ram_map.specs.Nested.{all_entries, IsConsistent};
 
     ghost Value = { Maps };
 
@@ -37,7 +38,7 @@ impl Model for RamMap {
 
     ghost view = { λ m. record { entries = all_entries vec_items m.maps.entries; ready = m.ready } };
 
-    ghost invariant = { λ m. IsSound vec_items m.maps m.ready m.size };
+    ghost invariant = { λ m. IsConsistent vec_items m.maps m.ready m.size };
 }
 
 impl RamMap {
@@ -107,7 +108,8 @@ impl RamMap {
         before
     }
 
-    /// Takes all keys of a prefix out, and answers how many there were. Room that was made under the prefix goes with them.
+    /// Takes all keys of a prefix out, and answers how many there were.
+    /// Room that was made under the prefix goes with them.
     pub fn clear(&mut self, prefix: u64) -> u64
         ensures count { result ≡ count_under prefix self.old.entries }
         ensures entries { self.new.entries ≡ without_prefix prefix self.old.entries }

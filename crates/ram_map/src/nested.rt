@@ -85,7 +85,8 @@ pub(crate) fn clear(maps: &mut Nested, prefix: u64) -> usize
     requires { IsUnique nat_eq maps.old }
     ensures count { result ≡ count_under prefix (all_entries vec_items maps.old.entries) }
     ensures unique { IsUnique nat_eq maps.new }
-    ensures kept { (other : ℕ) → nat_eq prefix other ≡ false → HasRoom maps.old other → HasRoom maps.new other }
+    ensures kept { (other : ℕ) → nat_eq prefix other ≡ false
+        → HasRoom maps.old other → HasRoom maps.new other }
     ensures entries { all_entries vec_items maps.new.entries
         ≡ without_prefix prefix (all_entries vec_items maps.old.entries) }
 {

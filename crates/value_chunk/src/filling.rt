@@ -19,8 +19,11 @@ use std::marker::Model;
 pub struct Filling<F: Folder> {
     name: ChunkName,
     file: F::File,
+    /// The bytes of the records that were appended.
     size: u64,
+    /// Bytes may lie past the file's front.
     unsynced: bool,
+    /// The disk refused a record, and a prefix of it may stand behind the others.
     torn: bool,
 }
 
@@ -30,9 +33,11 @@ impl<F: Folder> Model for Filling<F> {
 
     ghost Value = { Chunk };
 
-    ghost view = { λ it. record { name = it.name; file = F.state it.file; size = it.size; unsynced = it.unsynced; torn = it.torn } };
+    ghost view = { λ it.
+        record { name = it.name; file = F.state it.file; size = it.size; unsynced = it.unsynced; torn = it.torn } };
 
-    ghost invariant = { λ it. (F.tells ≡ true → F.File.name it.file ≡ Some it.name) × IsChunk F.tells (record { name = it.name; file = F.state it.file; size = it.size; unsynced = it.unsynced; torn = it.torn }) };
+    ghost invariant = { λ it. (F.tells ≡ true → F.File.name it.file ≡ Some it.name) × IsChunk F.tells
+        (record { name = it.name; file = F.state it.file; size = it.size; unsynced = it.unsynced; torn = it.torn }) };
 }
 
 impl<F: Folder> Filling<F> {

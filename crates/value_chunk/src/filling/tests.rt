@@ -96,41 +96,50 @@ fn fill(rt: &impl Abort, chunk: Filling<MemFolder>) -> Full<MemFolder>
     chunk.fill()
 }
 
-#[test]
-fn a_chunk_is_filled_and_sealed(rt: HostRuntime) -> Result<(), Fail> {
-    let mut port = folder(rt.alloc(), u64::MAX, 6)?;
-    let one = spelled(rt.alloc(), Seq(1))?;
-    let two = spelled(rt.alloc(), Seq(2))?;
-    let mut chunk = begin(&mut port)?;
+/// A chunk with two records.
+fn write(
+    rt: &impl Abort,
+    port: &mut MemFolder,
+    one: &[u8],
+    two: &[u8],
+) -> Result<Filling<MemFolder>, FolderRefusal>
+    requires empty { IsEmptyPort (⟦<MemFolder as Folder>⟧.port port.old) }
+    requires one { IsOneRecord Value one.now }
+    requires two { IsOneRecord Value two.now }
+    ensures { IfOk result (λ chunk. can_be_fixed (⟦<MemFolder as Folder>⟧.port port.new) chunk.name ≡ true) }
+{
+    let mut chunk = begin(port)?;
     expect_fits(
-        &rt,
+        rt,
         &chunk,
         &[("an empty chunk takes any record", LEN, 1, true)],
     );
-    let first = append(&rt, &mut chunk, &mut port, &one);
-    let second = append(&rt, &mut chunk, &mut port, &two);
-    assert_eq!(&rt; (first, second), (Ok(0), Ok(LEN)));
+    let first = append(rt, &mut chunk, port, one);
+    let second = append(rt, &mut chunk, port, two);
+    assert_eq!(rt; (first, second), (Ok(0), Ok(LEN)));
     let rows = [
         ("up to the limit", LEN, 3 * LEN, true),
         ("past the limit", LEN + 1, 3 * LEN, false),
         ("past any limit", u64::MAX, u64::MAX, false),
         ("nothing, past the limit", 0, LEN, false),
     ];
-    expect_fits(&rt, &chunk, &rows);
-    assert_eq!(&rt; chunk.size(), 2 * LEN);
-    let early = chunk.mark(&port);
-    assert!(&rt; !early);
-    assert_eq!(&rt; chunk.sync(&mut port), Ok(()));
-    assert_eq!(&rt; port.sync_names(), Ok(()));
-    let late = chunk.mark(&port);
-    assert!(&rt; late);
-    // From here on each call of the folder would fail, and none is made.
-    assert_eq!(&rt; chunk.sync(&mut port), Ok(()));
-    seal_and_give(&rt, fill(&rt, chunk), &mut port, 2 * LEN);
-    let mut wanted = one;
-    wanted.extend_from_slice(&two)?;
-    expect_held(&rt, &port, &wanted);
-    Ok(())
+    expect_fits(rt, &chunk, &rows);
+    assert_eq!(rt; chunk.size(), 2 * LEN);
+    Ok(chunk)
+}
+
+/// Syncs a chunk and its name.
+fn sync(rt: &impl Abort, chunk: &mut Filling<MemFolder>, port: &mut MemFolder)
+    requires { can_be_fixed (⟦<MemFolder as Folder>⟧.port port.old) chunk.old.name ≡ true }
+    ensures { can_be_fixed (⟦<MemFolder as Folder>⟧.port port.new) chunk.new.name ≡ true }
+{
+    let early = chunk.mark(port);
+    assert!(rt; !early);
+    let bytes = chunk.sync(port);
+    let names = port.sync_names();
+    assert_eq!(rt; (bytes, names), (Ok(()), Ok(())));
+    let late = chunk.mark(port);
+    assert!(rt; late);
 }
 
 /// Seals a chunk, and gives its file back.
@@ -148,6 +157,23 @@ fn seal_and_give(rt: &impl Abort, chunk: Full<MemFolder>, port: &mut MemFolder, 
             assert_eq!(rt; Some(why), None);
         }
     }
+}
+
+#[test]
+fn a_chunk_is_filled_and_sealed(rt: HostRuntime) -> Result<(), Fail> {
+    let mut port = folder(rt.alloc(), u64::MAX, 6)?;
+    let one = spelled(rt.alloc(), Seq(1))?;
+    let two = spelled(rt.alloc(), Seq(2))?;
+    let mut chunk = write(&rt, &mut port, &one, &two)?;
+    sync(&rt, &mut chunk, &mut port);
+    // From here on each call of the folder would fail, and none is made.
+    let again = chunk.sync(&mut port);
+    assert_eq!(&rt; again, Ok(()));
+    seal_and_give(&rt, fill(&rt, chunk), &mut port, 2 * LEN);
+    let mut wanted = one;
+    wanted.extend_from_slice(&two)?;
+    expect_held(&rt, &port, &wanted);
+    Ok(())
 }
 
 #[test]

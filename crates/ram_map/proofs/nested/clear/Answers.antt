@@ -1,4 +1,4 @@
-use Rattle.std.proofs.Common.{[], option_and_then, nat_eq, sym, ap, ◌∙◌}
+use Rattle.std.proofs.Common.{[], option_and_then, sym, ap, ◌∙◌}
 use Rattle.std.specs.Map.{lookup}
 use Rattle.std.specs.Vec.{vec_items}
 use Rattle.ram_map.specs.Nested.{has_bytes}

@@ -1,4 +1,4 @@
-use Rattle.std.proofs.Common.{◌≡◌, refl, arith, rules}
+use Rattle.std.proofs.Common.{refl, arith, rules}
 use Rattle.record_format.specs.declared.record.Record.TheVariants.{Clear}
 use Rattle.tomb_chunk.proofs.tests.spelled.Goals as goal
 

@@ -1,4 +1,4 @@
-use Rattle.std.proofs.Common.{IsSome, sym, ap, ◌∙◌}
+use Rattle.std.proofs.Common.{sym, ap, ◌∙◌}
 use Rattle.std.specs.FinMap.{len, len-empty}
 use Rattle.std.specs.Vec.{vec_items}
 use Rattle.hr_base.specs.Entries.{Content, key_cmp}

@@ -26,10 +26,10 @@ overflow_add-self c =
     let k = key_at c.args.prefix c.args.key.items in
     let was = ap (option_map content_of) c.put-before.ensures.old ∙ sym (get-all_entries vec_items c.self.inside.maps.entries k c.self.invariant.unique) ∙ ap (λ m. get m.entries k) c.self.view_is in
     let h : c.self.inside.size + c.from.result < 2 ^ 64 = put_fits c.self.inside.size c.from.result _ _ c.is_none.ensures c.from.ensures (omega arith) (λ new.
-        ⊎_elim
-        (λ here. absurd (true≢false (sym here ∙ ap is_some (sym was) ∙ is_some-option_map c.put-before.result ∙ new)))
-        (λ ready. c.self.invariant.fits (ap is_some (ap (λ m. m.ready) c.self.view_is ∙ ready)))
-        c.requires) in
+    ⊎_elim
+    (λ here. absurd (true≢false (sym here ∙ ap is_some (sym was) ∙ is_some-option_map c.put-before.result ∙ new)))
+    (λ ready. c.self.invariant.fits (ap is_some (ap (λ m. m.ready) c.self.view_is ∙ ready)))
+    c.requires) in
     omega arith
 
 pub invariant_of-self : goal.invariant_of-self

@@ -18,8 +18,8 @@ overflow_sub-self c =
     let k = key_at c.args.prefix c.args.key.now in
     let was = ap (option_map content_of) c.take-before.ensures.old ∙ sym (get-all_entries vec_items c.self.inside.maps.entries k c.self.invariant.unique) in
     taken_within c.self.inside.size c.from.result _ (c.from.ensures ∙ ap from_bool c.is_some.ensures) (λ here.
-        subst (λ (n : ℕ). 0 < n) (sym c.self.invariant.counted)
-        (len-present (all_entries vec_items c.self.inside.maps.entries) k (ap is_some (sym was) ∙ is_some-option_map c.take-before.result ∙ here)))
+    subst (λ (n : ℕ). 0 < n) (sym c.self.invariant.counted)
+    (len-present (all_entries vec_items c.self.inside.maps.entries) k (ap is_some (sym was) ∙ is_some-option_map c.take-before.result ∙ here)))
 
 pub invariant_of-self : goal.invariant_of-self
 invariant_of-self c = record {

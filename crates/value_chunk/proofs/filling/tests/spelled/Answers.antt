@@ -1,4 +1,4 @@
-use Rattle.std.proofs.Common.{◌≡◌, ◌≤◌, length, refl, ap, arith, rules}
+use Rattle.std.proofs.Common.{length, refl, ap, arith, rules}
 use Rattle.record_format.specs.declared.record.Record.TheVariants.{Value}
 use Rattle.value_chunk.proofs.filling.tests.spelled.Goals as goal
 
