@@ -93,7 +93,7 @@ pub record WasDone (left before now : Option (List ℕ)) : Type 0 where
   pub script : IsScriptOf left lines
   pub text : Takes before now (replies lines (λ _. empty))
 
--- The script was refused, and told so: as too long, or by the number of the first line that is none of the grammar.
+-- The script was refused, and told so: as too long, or by the number of its first bad line.
 abbrev pub WasRefused : Option (List ℕ) → Option (List ℕ) → Option (List ℕ) → Option (List ℕ) → Type 0
 WasRefused left rest before now =
     (IsTooLong left rest × Takes before now (last_line TooLong)) ⊎ ((number : ℕ) × IsBadAt left number × IsRead left rest × Takes before now (last_line (BadLine number)))

@@ -17,7 +17,7 @@ pub enum Ended {
     Words,
     /// The script has too many bytes.
     TooLong,
-    /// The first line that is none of the grammar, counted from 1.
+    /// The first line that is none of the grammar, or where all are, the first that cannot be played, counted from 1.
     Line { number: u64 },
     /// The input failed.
     Input,

@@ -36,7 +36,7 @@ fn first_unbuilt(lines: &[Line]) -> Option<u64>
     None
 }
 
-/// Reads the whole input, and then its grammar.
+/// Reads the whole input as a script that can be played.
 pub fn read_lines<S: Source>(alloc: Global, input: &mut S) -> Result<Script, Ended>
     ensures found { IfOk result (λ script. IsScriptOf (S.left input.old) script) }
     ensures valid { IfOk result (λ script. All IsPlayable script) }

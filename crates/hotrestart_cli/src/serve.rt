@@ -66,7 +66,7 @@ pub fn serve<F: Folder, S: Source, K: Sink>(
     ensures calm { F.tells ≡ true → IsCalm (F.port folder.new) }
     // What was replied, what was refused and why, what every crash leaves, and what is read where the disk did not fail.
     ensures served { Served F.tells (is_play words.now) (S.left input.old) (S.left input.new) (F.port folder.old) (F.port folder.new) (F.count folder.old) (F.count folder.new) (K.taken out.old) (K.taken out.new) result }
-    // A script in the grammar, a folder without chunk files and no fault: all is done, unless memory is wanting.
+    // A script that can be played, a folder without chunk files and no fault: all is done, unless memory is wanting.
     ensures complete { F.tells ≡ true → is_play words.now ≡ true → IsFit (S.left input.old) → ((name : ChunkName) → (F.port folder.old).held name ≡ None)
         → (Rose (S.count input.old) (S.count input.new) → ⊥) → (Rose (K.count out.old) (K.count out.new) → ⊥) → (Rose (F.count folder.old) (F.count folder.new) → ⊥)
         → (result ≡ 0) ⊎ (result ≡ 7) }
@@ -79,7 +79,7 @@ pub fn serve<F: Folder, S: Source, K: Sink>(
     // Status 1: exactly where the words are not those of the command. Nothing was touched.
     ensures words { result ≡ 1 ↔ (is_play words.now ≡ false) }
     ensures idle { result ≡ 1 → (folder.new ≡ folder.old) × (input.new ≡ input.old) × (out.new ≡ out.old) }
-    // Status 2: more was read than a script may have, or a line is the first that is none; that is told, and nothing
+    // Status 2: more was read than a script may have, or a line is the first at fault; that is told, and nothing
     // else. For such a script the folder stays as it was, whatever the status.
     ensures refused { result ≡ 2 → WasRefused (S.left input.old) (S.left input.new) (K.taken out.old) (K.taken out.new) }
     ensures unfit { is_play words.now ≡ true → IsUnfit (S.left input.old) → CanRefuse result × (folder.new ≡ folder.old) }

@@ -34,8 +34,8 @@ fn value_record(
 }
 
 /// The writer of a partition. It keeps the partition's maps in memory, and appends one record to its file for each
-/// command that changes a map. What each call makes of maps, records, files and account stands in its clauses;
-/// `docs/DEFINITIONS.md` has the words in plain language.
+/// command that changes a map. What each call makes of maps, records, files and account stands in its clauses,
+/// and the words of these in `specs/`.
 pub struct Writer<F: Folder> {
     chunk: ChunkFile<F>,
     map: RamMap,
