@@ -21,7 +21,7 @@ use Rattle.script_text.specs.Replies.{replies}
 use Rattle.partition_writer.specs.Standing.{Standing, StandsFor}
 use Rattle.partition_writer.specs.Stored.{first_chunk}
 use Rattle.hotrestart_cli.specs.declared.ended.Ended.{Ended}
-use Rattle.hotrestart_cli.specs.declared.ended.Ended.TheVariants.{Whole, Words, TooLong, Line as BadLine, Input, Sink, Disk, NotBuilt, Memory}
+use Rattle.hotrestart_cli.specs.declared.ended.Ended.TheVariants.{Whole, Words, TooLong, BadLine, Input, Sink, Disk, NotBuilt, Memory}
 use Rattle.hotrestart_cli.specs.Outcome.{IsSessionEnd, IsTellable, last_line, status_of, Tells, told, no_memory, not_taken, nothing_taken}
 use Rattle.hotrestart_cli.specs.Session.{lines_size, accounts_at, TextAt, Played}
 use Rattle.hotrestart_cli.specs.Folders.{IsFirstHeld, Ran, RanScript, Because, Served, WasDone, WasRefused, WasNotBuilt}

@@ -7,7 +7,7 @@ use Rattle.hr_base.specs.declared.name.ChunkName.{ChunkName}
 use Rattle.dir_files.specs.Files.{FileState}
 use Rattle.dir_files.specs.Ports.{Port}
 use Rattle.hotrestart_cli.specs.declared.ended.Ended.{Ended}
-use Rattle.hotrestart_cli.specs.declared.ended.Ended.TheVariants.{Whole, Words, TooLong, Line as BadLine, Input, Sink, Disk, NotBuilt, Memory}
+use Rattle.hotrestart_cli.specs.declared.ended.Ended.TheVariants.{Whole, Words, TooLong, BadLine, Input, Sink, Disk, NotBuilt, Memory}
 use Rattle.hotrestart_cli.specs.Outcome.{IsSessionEnd, IsEarly, CanRefuse, CanRefuseFolder, status_of, Tells, told, no_memory, not_taken, nothing_taken}
 use Rattle.hotrestart_cli.specs.Scripts.{IsScriptOf, IsUnfit, IsFit}
 use Rattle.hotrestart_cli.specs.Folders.{Because, Ran, WasRefused, WasNotBuilt}

@@ -6,7 +6,7 @@ use Rattle.script_text.specs.declared.script.ScriptRefusal.TheVariants as script
 use Rattle.hotrestart_cli.specs.declared.input.InputRefusal.{InputRefusal}
 use Rattle.hotrestart_cli.specs.declared.input.InputRefusal.TheVariants as input
 use Rattle.hotrestart_cli.specs.declared.ended.Ended.{Ended}
-use Rattle.hotrestart_cli.specs.declared.ended.Ended.TheVariants.{TooLong, Line, Input, Disk, Memory}
+use Rattle.hotrestart_cli.specs.declared.ended.Ended.TheVariants.{TooLong, BadLine, Input, Disk, Memory}
 
 -- where the input could not be read
 abbrev pub ended_of_input : InputRefusal → Ended
@@ -17,7 +17,7 @@ ended_of_input input.Failed = Input
 -- where it is no script
 abbrev pub ended_of_script : ScriptRefusal → Ended
 ended_of_script script.Memory = Memory
-ended_of_script (script.Line number) = Line number
+ended_of_script (script.Line number) = BadLine number
 
 -- where the folder refused a call
 abbrev pub ended_of_folder : FolderRefusal → Ended

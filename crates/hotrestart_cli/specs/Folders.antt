@@ -14,7 +14,7 @@ use Rattle.crash_law.specs.Restarts.{AllRestart}
 use Rattle.script_text.specs.declared.line.Line.{Line}
 use Rattle.script_text.specs.Replies.{replies}
 use Rattle.hotrestart_cli.specs.declared.ended.Ended.{Ended}
-use Rattle.hotrestart_cli.specs.declared.ended.Ended.TheVariants.{Whole, Words, TooLong, Line as BadLine, Input, Sink, Disk, NotBuilt, Memory}
+use Rattle.hotrestart_cli.specs.declared.ended.Ended.TheVariants.{Whole, Words, TooLong, BadLine, Input, Sink, Disk, NotBuilt, Memory}
 use Rattle.hotrestart_cli.specs.Outcome.{Tells, last_line}
 use Rattle.hotrestart_cli.specs.Scripts.{IsBadAt, IsScriptOf, IsTooLong}
 use Rattle.hotrestart_cli.specs.Session.{TextAt, accounts_at}

@@ -6,7 +6,7 @@ use Rattle.script_text.specs.declared.line.Line.TheVariants.{Put, Remove, Clear,
 use Rattle.script_text.specs.declared.line.Mode.TheVariants.{Play}
 use Rattle.script_text.specs.Lines.{IsLine, IsScript, IsFirstBad}
 use Rattle.hotrestart_cli.specs.declared.ended.Ended.{Ended}
-use Rattle.hotrestart_cli.specs.declared.ended.Ended.TheVariants.{Whole, Words, TooLong, Line as BadLine, Input, Sink, Disk, NotBuilt, Memory}
+use Rattle.hotrestart_cli.specs.declared.ended.Ended.TheVariants.{Whole, Words, TooLong, BadLine, Input, Sink, Disk, NotBuilt, Memory}
 
 -- whether a session can play the line: removals and clearings are not built yet
 abbrev pub is_built : Line → Bool

@@ -10,7 +10,7 @@ use Rattle.script_text.specs.Lines.{partition_of}
 use Rattle.script_text.specs.Replies.{changed_at, command_of_line, maps_after_line, replies, text_after}
 use Rattle.partition_writer.specs.Standing.{Standing, StandsFor}
 use Rattle.hotrestart_cli.specs.declared.ended.Ended.{Ended}
-use Rattle.hotrestart_cli.specs.declared.ended.Ended.TheVariants.{Whole, Words, TooLong, Line as BadLine, Input, Sink, Disk, NotBuilt, Memory}
+use Rattle.hotrestart_cli.specs.declared.ended.Ended.TheVariants.{Whole, Words, TooLong, BadLine, Input, Sink, Disk, NotBuilt, Memory}
 use Rattle.hotrestart_cli.specs.declared.step.Step.{Step}
 use Rattle.hotrestart_cli.specs.declared.step.Step.TheVariants.{Answered, NoReply, NoMemory, DiskFailed}
 

@@ -18,7 +18,7 @@ pub enum Ended {
     /// The script has too many bytes.
     TooLong,
     /// The first line that is none of the grammar, or where all are, the first that cannot be played, counted from 1.
-    Line { number: u64 },
+    BadLine { number: u64 },
     /// The input failed.
     Input,
     /// The output failed.
@@ -49,7 +49,7 @@ impl From<ScriptRefusal> for Ended {
     fn from(refusal: ScriptRefusal) -> Ended {
         match refusal {
             ScriptRefusal::Memory => Ended::Memory,
-            ScriptRefusal::Line { number } => Ended::Line { number },
+            ScriptRefusal::Line { number } => Ended::BadLine { number },
         }
     }
 }

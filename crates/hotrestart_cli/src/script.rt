@@ -44,14 +44,14 @@ pub fn read_lines<S: Source>(alloc: Global, input: &mut S) -> Result<Script, End
     ensures small { IfOk result (λ script. lines_size script ≤ 2 ^ 27) }
     ensures ended { OnOk result (IsRead (S.left input.old) (S.left input.new)) }
     ensures refused { IfErr result (IsRefusedScript (S.left input.old) (S.left input.new)) }
-    ensures read { (number : ℕ) → IfErr result (λ e. e ≡ Ended.Line number → IsRead (S.left input.old) (S.left input.new)) }
+    ensures read { (number : ℕ) → IfErr result (λ e. e ≡ Ended.BadLine number → IsRead (S.left input.old) (S.left input.new)) }
     ensures fault { IfErr result (λ e. e ≡ Ended.Input → Rose (S.count input.old) (S.count input.new)) }
     ensures kept { S.count input.old ≤ S.count input.new }
 {
     let bytes = read_all(alloc, input)?;
     let script = read_script(alloc, bytes.as_slice(), Mode::Play, 1)?;
     match first_unbuilt(script.lines()) {
-        Some(number) => Err(Ended::Line { number }),
+        Some(number) => Err(Ended::BadLine { number }),
         None => Ok(script),
     }
 }
