@@ -12,8 +12,8 @@ use Rattle.dir_files.specs.Files.{FileState, Files, ChangesAt, new_file, with_by
 use Rattle.dir_files.specs.Images.{Image, files_of}
 use Rattle.record_format.specs.declared.record.Record.{Record}
 use Rattle.record_format.specs.Spelling.{spelling, spellings}
-use Rattle.crash_law.specs.Placed.{Placed, in_chunk, IsPlaced, IsAsFound, IsOwn, HoldsAt, Holds, IsExactly, HasWholeAt, HoldsWhole}
-use Rattle.crash_law.specs.Growth.{IsOwnBut, HoldsButAt, HoldsBut, RisesFile, Rises, IsKeptWhole, MayBeNew}
+use Rattle.crash_law.specs.Placed.{Placed, in_chunk, IsPlaced, IsAsFound, HoldsAt, Holds, HasWholeAt, HoldsWhole}
+use Rattle.crash_law.specs.Growth.{IsOwnBut, file_or_new, HoldsButAt, HoldsBut, RisesFile, Rises, IsKeptWhole, MayBeNew}
 use Rattle.crash_law.proofs.PlacedLaws.{in_chunk-append}
 
 -- ---- what follows from it
@@ -71,16 +71,45 @@ in_chunk-push_other name other xs r differ =
     ∙ ap (λ (rs : List Record). in_chunk other xs ++ rs) (in_one name other r false (is_name-other other name differ))
     ∙ append-nil (in_chunk other xs)
 
-module _ (p : ℕ) (found : Image) (files changed gone : Files) (durable tail : List Placed) (name : ChunkName) (r : Record)
-    (h : HoldsBut p found files gone durable tail []) (own : found name ≡ None) (placed : IsPlaced p (record { content = r; chunk = name })) where
-  abbrev x : Placed
-  x = record { content = r; chunk = name }
-
+-- what stands at a name that was not found
+module _ (p : ℕ) (found : Image) (files gone : Files) (durable tail : List Placed) (name : ChunkName)
+    (h : HoldsBut p found files gone durable tail []) (of : name.partition.0 ≡ p) (own : found name ≡ None) where
   at_name : (file : Option FileState) → files name ≡ file → IsOwnBut file (in_chunk name durable) (in_chunk name tail) []
   at_name file is =
       subst (λ (xs : List Placed). IsOwnBut file (in_chunk name durable) (in_chunk name xs) []) (append-nil tail)
       (subst (λ (o : Option FileState). IsOwnBut o (in_chunk name durable) (in_chunk name (tail ++ [])) []) is
-      (subst (λ (f : Option (List ℕ)). HoldsButAt f (files name) (in_chunk name durable) (in_chunk name (tail ++ [])) []) own (h.at name placed.partition)))
+      (subst (λ (f : Option (List ℕ)). HoldsButAt f (files name) (in_chunk name durable) (in_chunk name (tail ++ [])) []) own (h.at name of)))
+
+  new_own : files name ≡ None → (file : Option FileState) → MayBeNew file → IsOwnBut file (in_chunk name durable) (in_chunk name tail) []
+  new_own none file (inl is) = subst (λ (o : Option FileState). IsOwnBut o (in_chunk name durable) (in_chunk name tail) []) (sym is) (at_name None none)
+  new_own none file (inr is) =
+      let absent = at_name None none in
+      subst (λ (o : Option FileState). IsOwnBut o (in_chunk name durable) (in_chunk name tail) []) (sym is)
+      (subst (λ (rs : List Record). IsOwnBut (Some new_file) rs (in_chunk name tail) []) (sym absent.0)
+      (subst (λ (rs : List Record). IsOwnBut (Some new_file) [] rs []) (sym absent.1)
+      (omega arith, ([], record { bytes = refl; front = omega arith; named = inl refl }, omega arith))))
+
+  -- its file may have been created
+  pub holds_new : (changed : Files) → files name ≡ None → MayBeNew (changed name) → ((other : ChunkName) → other ≢ name → changed other ≡ files other)
+      → HoldsBut p found changed gone durable tail []
+  holds_new changed none may others = record {
+    placed = h.placed;
+    at = λ other is. at other is (same_name_or_not other name);
+    none_gone = h.none_gone;
+  } where
+    at : (other : ChunkName) → other.partition.0 ≡ p → (other ≡ name) ⊎ (other ≢ name)
+        → HoldsButAt (found other) (changed other) (in_chunk other durable) (in_chunk other (tail ++ [])) []
+    at other is (inl same) =
+        subst (λ (n : ChunkName). HoldsButAt (found n) (changed n) (in_chunk n durable) (in_chunk n (tail ++ [])) []) (sym same)
+        (subst (λ (f : Option (List ℕ)). HoldsButAt f (changed name) (in_chunk name durable) (in_chunk name (tail ++ [])) []) (sym own)
+        (subst (λ (rs : List Record). IsOwnBut (changed name) (in_chunk name durable) rs []) (sym (ap (in_chunk name) (append-nil tail))) (new_own none (changed name) may)))
+    at other is (inr differ) =
+        subst (λ (o : Option FileState). HoldsButAt (found other) o (in_chunk other durable) (in_chunk other (tail ++ [])) []) (sym (others other differ)) (h.at other is)
+
+module _ (p : ℕ) (found : Image) (files changed gone : Files) (durable tail : List Placed) (name : ChunkName) (r : Record)
+    (h : HoldsBut p found files gone durable tail []) (own : found name ≡ None) (placed : IsPlaced p (record { content = r; chunk = name })) where
+  abbrev x : Placed
+  x = record { content = r; chunk = name }
 
   all_placed : All (IsPlaced p) (durable ++ (tail ++ x ∷ []))
   all_placed =
@@ -95,9 +124,20 @@ module _ (p : ℕ) (found : Image) (files changed gone : Files) (durable tail : 
       (subst (λ (rs : List Record). HoldsButAt (found other) (files other) (in_chunk other durable) rs [])
       (ap (in_chunk other) (append-nil tail) ∙ sym (in_chunk-push_other name other tail r differ) ∙ sym is) (h.at other of)))
 
-  module _ (file : FileState) (is : files name ≡ Some file) (within : length file.bytes + length (spelling r) ≤ MAX_FILE_LEN) where
+  abbrev file : FileState
+  file = file_or_new (files name)
+
+  before_by : (o : Option FileState) → IsOwnBut o (in_chunk name durable) (in_chunk name tail) [] → IsOwnBut (Some (file_or_new o)) (in_chunk name durable) (in_chunk name tail) []
+  before_by (Some f) own = own
+  before_by None own =
+      subst (λ (rs : List Record). IsOwnBut (Some new_file) rs (in_chunk name tail) []) (sym own.0)
+      (subst (λ (rs : List Record). IsOwnBut (Some new_file) [] rs []) (sym own.1)
+      (omega arith, ([], record { bytes = refl; front = omega arith; named = inl refl }, omega arith)))
+
+  module _ (within : length file.bytes + length (spelling r) ≤ MAX_FILE_LEN) where
+    -- what the file held before, created where there was none
     before : IsOwnBut (Some file) (in_chunk name durable) (in_chunk name tail) []
-    before = at_name (Some file) is
+    before = before_by (files name) (at_name p found files gone durable tail name h placed.partition own (files name) refl)
 
     nothing : before.1.0 ≡ []
     nothing = nil_from_length before.1.0 (omega (arith, before.1.2))
@@ -114,15 +154,18 @@ module _ (p : ℕ) (found : Image) (files changed gone : Files) (durable tail : 
     -- with some front of the record's bytes
     after : (piece missing : List ℕ) (lost : List Record) → spelling r ≡ piece ++ missing → length missing ≤ length (spellings lost)
         → IsOwnBut (Some (with_bytes file piece)) (in_chunk name durable) (in_chunk name tail ++ r ∷ []) lost
-    after piece missing lost split few =
-        (omega (arith, within, length-append file.bytes piece, ap length split, length-append piece missing),
-        (missing,
+    after piece missing lost split few = (
+      omega (arith, within, length-append file.bytes piece, ap length split, length-append piece missing),
+      (
+        missing,
         record {
           bytes = bytes_after ∙ ap (λ (bytes : List ℕ). file.bytes ++ bytes) split ∙ sym (append_assoc file.bytes piece missing);
           front = before.1.1.front;
           named = before.1.1.named;
         },
-        few))
+        few,
+      ),
+    )
 
     after_at : (piece missing : List ℕ) (since : List Placed) (lost : List Record) → spelling r ≡ piece ++ missing → length missing ≤ length (spellings lost)
         → in_chunk name since ≡ in_chunk name (tail ++ x ∷ []) → changed name ≡ Some (with_bytes file piece)
@@ -173,7 +216,7 @@ module _ (p : ℕ) (found : Image) (files changed gone : Files) (durable tail : 
   -- its file could not be created: it is missing whole
   module _ (none : files name ≡ None) (may : MayBeNew (changed name)) (others : (other : ChunkName) → other ≢ name → changed other ≡ files other) where
     absent : IsOwnBut None (in_chunk name durable) (in_chunk name tail) []
-    absent = at_name None none
+    absent = at_name p found files gone durable tail name h placed.partition own None none
 
     lost_own : (file : Option FileState) → MayBeNew file → IsOwnBut file (in_chunk name durable) (in_chunk name tail ++ r ∷ []) (r ∷ [])
     lost_own file (inl is) =
@@ -184,14 +227,6 @@ module _ (p : ℕ) (found : Image) (files changed gone : Files) (durable tail : 
         (subst (λ (rs : List Record). IsOwnBut (Some new_file) rs (in_chunk name tail ++ r ∷ []) (r ∷ [])) (sym absent.0)
         (subst (λ (rs : List Record). IsOwnBut (Some new_file) [] (rs ++ r ∷ []) (r ∷ [])) (sym absent.1)
         (omega arith, (spellings (r ∷ []), record { bytes = refl; front = omega arith; named = inl refl }, omega arith))))
-
-    new_own : (file : Option FileState) → MayBeNew file → IsOwnBut file (in_chunk name durable) (in_chunk name tail) []
-    new_own file (inl is) = subst (λ (o : Option FileState). IsOwnBut o (in_chunk name durable) (in_chunk name tail) []) (sym is) absent
-    new_own file (inr is) =
-        subst (λ (o : Option FileState). IsOwnBut o (in_chunk name durable) (in_chunk name tail) []) (sym is)
-        (subst (λ (rs : List Record). IsOwnBut (Some new_file) rs (in_chunk name tail) []) (sym absent.0)
-        (subst (λ (rs : List Record). IsOwnBut (Some new_file) [] rs []) (sym absent.1)
-        (omega arith, ([], record { bytes = refl; front = omega arith; named = inl refl }, omega arith))))
 
     pub holds_lost : HoldsBut p found changed gone durable tail (x ∷ [])
     holds_lost = record {
@@ -208,22 +243,6 @@ module _ (p : ℕ) (found : Image) (files changed gone : Files) (durable tail : 
           (subst (λ (rs : List Record). IsOwnBut (changed name) (in_chunk name durable) rs (r ∷ [])) (sym (in_chunk-push name tail r)) (lost_own (changed name) may))))
       at other of (inr differ) =
           others_at other (tail ++ x ∷ []) of differ (others other differ) refl (in_chunk other (x ∷ [])) (in_one name other r false (is_name-other other name differ))
-
-    -- and as long as nothing was to be appended, nothing changed
-    pub holds_new : HoldsBut p found changed gone durable tail []
-    holds_new = record {
-      placed = h.placed;
-      at = λ other of. at other of (same_name_or_not other name);
-      none_gone = h.none_gone;
-    } where
-      at : (other : ChunkName) → other.partition.0 ≡ p → (other ≡ name) ⊎ (other ≢ name)
-          → HoldsButAt (found other) (changed other) (in_chunk other durable) (in_chunk other (tail ++ [])) []
-      at other of (inl same) =
-          subst (λ (n : ChunkName). HoldsButAt (found n) (changed n) (in_chunk n durable) (in_chunk n (tail ++ [])) []) (sym same)
-          (subst (λ (f : Option (List ℕ)). HoldsButAt f (changed name) (in_chunk name durable) (in_chunk name (tail ++ [])) []) (sym own)
-          (subst (λ (rs : List Record). IsOwnBut (changed name) (in_chunk name durable) rs []) (sym (ap (in_chunk name) (append-nil tail))) (new_own (changed name) may)))
-      at other of (inr differ) =
-          subst (λ (o : Option FileState). HoldsButAt (found other) o (in_chunk other durable) (in_chunk other (tail ++ [])) []) (sym (others other differ)) (h.at other of)
 
 -- ---- files of which a crash keeps more
 
@@ -262,15 +281,18 @@ named_still old new durable rises (inr named) = inr (rises.named named)
 rises_own : (old new : Option FileState) (durable since lost : List Record) → Rises old new → IsOwnBut old durable since lost → IsOwnBut new durable since lost
 rises_own None new durable since lost rises own = subst (λ (o : Option FileState). IsOwnBut o durable since lost) (sym rises) own
 rises_own (Some old) None durable since lost rises own = absurd rises
-rises_own (Some old) (Some new) durable since lost rises own =
-    (omega (arith, own.0, ap length rises.bytes),
-    (own.1.0,
+rises_own (Some old) (Some new) durable since lost rises own = (
+  omega (arith, own.0, ap length rises.bytes),
+  (
+    own.1.0,
     record {
       bytes = own.1.1.bytes ∙ ap (λ (b : List ℕ). b ++ own.1.0) (sym rises.bytes);
       front = omega (arith, own.1.1.front, rises.front);
       named = named_still old new durable rises own.1.1.named;
     },
-    own.1.2))
+    own.1.2,
+  ),
+)
 
 rises_at : (found : Option (List ℕ)) (old new : Option FileState) (durable since lost : List Record) → Rises old new → HoldsButAt found old durable since lost → HoldsButAt found new durable since lost
 rises_at (Some bytes) old new durable since lost rises at = rises_found old new bytes durable since rises at
@@ -290,15 +312,18 @@ all_own : (file : Option FileState) (durable since : List Record) → IsKeptWhol
 all_own None durable since kept own = (ap (λ (rs : List Record). rs ++ since) own.0 ∙ own.1, refl)
 all_own (Some file) durable since kept own =
     let none : own.1.0 ≡ [] = nil_from_length own.1.0 (omega (arith, own.1.2)) in
-    let exact : spellings (durable ++ since) ≡ file.bytes = own.1.1.bytes ∙ ap (λ (m : List ℕ). file.bytes ++ m) none ∙ append-nil file.bytes in
-    (own.0,
-    ([],
-    record {
-      bytes = ap spellings (append-nil (durable ++ since)) ∙ exact ∙ sym (append-nil file.bytes);
-      front = omega (arith, kept.0, ap length exact);
-      named = inr kept.1;
-    },
-    omega arith))
+    let exact : spellings (durable ++ since) ≡ file.bytes = own.1.1.bytes ∙ ap (λ (m : List ℕ). file.bytes ++ m) none ∙ append-nil file.bytes in (
+      own.0,
+      (
+        [],
+        record {
+          bytes = ap spellings (append-nil (durable ++ since)) ∙ exact ∙ sym (append-nil file.bytes);
+          front = omega (arith, kept.0, ap length exact);
+          named = inr kept.1;
+        },
+        omega arith,
+      ),
+    )
 
 all_at : (found : Option (List ℕ)) (file : Option FileState) (durable since : List Record) → (found ≡ None → IsKeptWhole file) → HoldsButAt found file durable since [] → HoldsButAt found file (durable ++ since) [] []
 all_at (Some bytes) file durable since kept at = joined_found file bytes durable since at
@@ -320,8 +345,8 @@ holds_synced p found files gone durable tail h kept = record {
 -- ---- nothing was written yet
 
 begun_at : (found : Option (List ℕ)) (file : Option FileState) → file ≡ option_map (λ bytes. record { bytes = bytes; front = length bytes; named = true }) found → HoldsButAt found file [] [] []
-begun_at (Some bytes) file is = record { is = is; none_durable = refl; none_since = refl }
-begun_at None file is = subst (λ (o : Option FileState). IsOwnBut o [] [] []) (sym is) (refl, refl)
+begun_at (Some bytes) left is = record { is = is; none_durable = refl; none_since = refl }
+begun_at None left is = subst (λ (o : Option FileState). IsOwnBut o [] [] []) (sym is) (refl, refl)
 
 pub holds_begun : (p : ℕ) (found : Image) (files gone : Files) → ((name : ChunkName) → name.partition.0 ≡ p → files name ≡ files_of found name)
     → ((name : ChunkName) → name.partition.0 ≡ p → gone name ≡ None) → HoldsBut p found files gone [] [] []
