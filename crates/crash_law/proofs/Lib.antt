@@ -6,4 +6,5 @@ pub mod ChunkLaws
 pub mod ImageLaws
 pub mod PlacedLaws
 pub mod GrowthLaws
+pub mod WriterLaws
 pub mod FileLaws

@@ -6,3 +6,4 @@ pub mod Chunks
 pub mod Crashes
 pub mod Placed
 pub mod Growth
+pub mod Writers
