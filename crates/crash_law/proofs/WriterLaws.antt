@@ -1,6 +1,6 @@
 -- How what a writer stands for changes with its calls, and what it leaves.
-use Rattle.std.specs.Prelude.{◌≡◌, ◌≢◌, ◌⊎◌, ℕ, ◌+◌, ◌<◌, ◌≤◌, Bool, true, false, List, [], ◌∷◌, ◌++◌, length, take, map, All, Option, Some, None, if◌then◌else◌, refl}
-use Rattle.std.proofs.Common.{sym, ◌∙◌, ap, subst, inl, inr, arith, append_assoc, length-append}
+use Rattle.std.specs.Prelude.{◌≡◌, ◌⊎◌, ℕ, ◌+◌, ◌<◌, ◌≤◌, Bool, true, false, List, [], ◌∷◌, ◌++◌, take, All, Option, Some, None, if◌then◌else◌, refl}
+use Rattle.std.proofs.Common.{sym, ◌∙◌, ap, subst, inl, inr, arith, append_assoc}
 use Rattle.std.specs.Option.{option_map}
 use Rattle.std.proofs.lemmas.List.{map-append, append-nil, nil_from_length}
 use Rattle.std.proofs.lemmas.List.Elements.{All-nil, All-push, All-weaker, All-head, All-tail}
@@ -10,13 +10,16 @@ use Rattle.dir_files.specs.Files.{FileState, Files, SameAt}
 use Rattle.dir_files.specs.Images.{Image}
 use Rattle.record_format.specs.declared.record.Record.{Record}
 use Rattle.record_format.specs.Spelling.{seq_of, spelling}
-use Rattle.crash_law.specs.Accounts.{Account, fresh_account, refused, synced}
-use Rattle.crash_law.specs.Commands.{Command, command_of, maps_after, maps_after_all}
+use Rattle.crash_law.specs.Accounts.{Account, fresh_account, answered, refused, synced}
+use Rattle.crash_law.specs.Commands.{Command, command_of, is_written, maps_after, maps_after_all}
 use Rattle.crash_law.specs.Numbered.{Rising, commands_of}
-use Rattle.crash_law.specs.Placed.{Placed, records_of, IsPlaced, IsAsFound, Base, InOrder}
-use Rattle.crash_law.specs.Growth.{HoldsButAt, HoldsBut, Adds, MayBegin, PartRises, AreDurable, IsBegun}
-use Rattle.crash_law.specs.Writers.{Start, Written, StandsFor, NotesRecord, AppendsRecord, LosesRecord, TakesNew}
+use Rattle.crash_law.specs.Placed.{Placed, records_of, Base, Holds, InOrder}
+use Rattle.crash_law.specs.Crashes.{Recovers, PartSurvives}
+use Rattle.crash_law.specs.Restarts.{RestartsAs}
+use Rattle.crash_law.specs.Growth.{HoldsButAt, HoldsBut, PartRises}
+use Rattle.crash_law.specs.Writers.{Start, Written, StandsFor, BeginsWith, CreatesFile, NotesRecord, AppendsRecord, LosesRecord, KeepsRecords, SyncsRecords}
 use Rattle.crash_law.proofs.NumberedLaws.{Rising-more}
+use Rattle.crash_law.proofs.FileLaws.{files_recover, files_read}
 use Rattle.crash_law.proofs.GrowthLaws.{holds_more, holds_torn, holds_lost, holds_new, holds_risen, holds_synced, holds_begun, holds_but, holds_whole}
 
 -- ---- lists
@@ -61,23 +64,22 @@ not_found_by (Some bytes) file durable since lost h none = absurd (none_some _ (
 
 -- ---- a writer that begins
 
-pub stand_begun : (w : Written) (b : Start) → Base w.partition b.found b.maps b.first → IsBegun w.partition b.found w.files w.gone
-    → w.maps ≡ b.maps → w.records ≡ [] → w.next ≡ b.first → w.lost ≡ false → ((name : ChunkName) → w.taking name ≡ false) → StandsFor w b (fresh_account b.maps)
-stand_begun w b base begun maps records next lost none = record {
-  base = base;
+pub stand_begun : (w : Written) (b : Start) → BeginsWith w b → StandsFor w b (fresh_account b.maps)
+stand_begun w b begins = record {
+  base = begins.base;
   durable = [];
   kept = [];
   lost = [];
-  records = records;
-  one_lost = sym (ap (λ (x : Bool). if x then 1 else 0) lost);
-  maps = sym maps;
-  tail = sym (ap (λ (xs : List Placed). commands_of (records_of xs)) records);
+  records = begins.records;
+  one_lost = sym (ap (λ (x : Bool). if x then 1 else 0) begins.lost);
+  maps = sym begins.maps;
+  tail = sym (ap (λ (xs : List Placed). commands_of (records_of xs)) begins.records);
   durable_maps = refl;
   kept_maps = refl;
   order = order;
-  below = subst (λ (xs : List Placed). All (λ r. seq_of r < w.next) (records_of xs)) (sym records) (All-nil (λ r. seq_of r < w.next));
-  from = omega (arith, next);
-  holds = holds_begun w.partition b.found w.files w.gone begun.as_found begun.none_gone;
+  below = subst (λ (xs : List Placed). All (λ r. seq_of r < w.next) (records_of xs)) (sym begins.records) (All-nil (λ r. seq_of r < w.next));
+  from = omega (arith, begins.next);
+  holds = holds_begun w.partition b.found w.files w.gone begins.begun.as_found begins.begun.none_gone;
   own = λ name takes. absurd (taken_not name takes);
 } where
   order : InOrder b.first [] w.records
@@ -86,11 +88,11 @@ stand_begun w b base begun maps records next lost none = record {
     from = omega arith;
     rising = tt;
     below = All-nil (λ r. seq_of r < b.first);
-    since = subst (λ (xs : List Placed). Rising b.first (records_of xs)) (sym records) tt;
+    since = subst (λ (xs : List Placed). Rising b.first (records_of xs)) (sym begins.records) tt;
   }
 
   taken_not : (name : ChunkName) → w.taking name ≡ true → ⊥
-  taken_not name takes = true_false (sym takes ∙ none name) where
+  taken_not name takes = true_false (sym takes ∙ begins.taking name) where
     true_false : true ≡ false → ⊥
     true_false e = cc
 
@@ -220,3 +222,177 @@ module _ (w t : Written) (b : Start) (a : Account) (h : StandsFor w b a) (whole 
         (holds_gone w.partition b.found t.files w.gone t.gone h.durable w.records (x ∷ []) holds notes.gone);
     own = more_own;
   }
+
+-- ---- a command with its record
+
+own_by : (w : Written) (b : Start) (a : Account) → StandsFor w b a → (name : ChunkName) → name.partition.0 ≡ w.partition → (w.taking name ≡ true) ⊎ (w.files name ≡ None) → b.found name ≡ None
+own_by w b a h name of (inl takes) = h.own name takes
+own_by w b a h name of (inr none) = not_found_by (b.found name) (w.files name) _ _ _ (h.holds.at name of) none
+
+written_tail : (b : Bool) (cs : List Command) (c : Command) → b ≡ true → cs ++ c ∷ [] ≡ (if b then cs ++ c ∷ [] else cs)
+written_tail true cs c e = refl
+written_tail false cs c e = cc
+
+-- the disk took it whole
+pub stand_appended : (w t : Written) (b : Start) (a : Account) (x : Placed) → StandsFor w b a → w.lost ≡ false → AppendsRecord w t x (spelling x.content) → t.lost ≡ false
+    → t.maps ≡ maps_after (command_of x.content) w.maps → is_written (command_of x.content) w.maps ≡ true → StandsFor t b (answered a (command_of x.content))
+stand_appended w t b a x h whole appends none maps written =
+    let own = own_by w b a h x.chunk appends.placed.partition appends.chunk in
+    let stands = stand_more w t b a h whole x appends.numbered appends.noted none (ap (maps_after (command_of x.content)) h.maps ∙ sym maps)
+        (holds_more w.partition b.found w.files t.files w.gone h.durable w.records x.chunk x.content (holds_all w b a h whole) own appends.placed appends.within appends.files) in
+    subst (λ (cs : List Command). StandsFor t b (record { maps = maps_after (command_of x.content) a.maps; durable = a.durable; tail = cs }))
+    (written_tail (is_written (command_of x.content) a.maps) a.tail (command_of x.content) (ap (is_written (command_of x.content)) h.maps ∙ written))
+    stands
+
+-- the disk took a front of it
+pub stand_torn : (w t : Written) (b : Start) (a : Account) (x : Placed) (n : ℕ) → StandsFor w b a → w.lost ≡ false → AppendsRecord w t x (take n (spelling x.content)) → t.lost ≡ true
+    → t.maps ≡ w.maps → StandsFor t b (refused a (command_of x.content))
+stand_torn w t b a x n h whole appends some maps =
+    stand_less w t b a h whole x appends.numbered appends.noted some maps
+    (holds_torn w.partition b.found w.files t.files w.gone h.durable w.records x.chunk x.content (holds_all w b a h whole)
+    (own_by w b a h x.chunk appends.placed.partition appends.chunk) appends.placed appends.within n appends.files)
+
+-- the disk made no file for it
+pub stand_lost : (w t : Written) (b : Start) (a : Account) (x : Placed) → StandsFor w b a → w.lost ≡ false → LosesRecord w t x → t.lost ≡ true
+    → t.maps ≡ w.maps → StandsFor t b (refused a (command_of x.content))
+stand_lost w t b a x h whole loses some maps =
+    stand_less w t b a h whole x loses.numbered loses.noted some maps
+    (holds_lost w.partition b.found w.files t.files w.gone h.durable w.records x.chunk x.content (holds_all w b a h whole)
+    (own_by w b a h x.chunk loses.placed.partition (inr loses.none)) loses.placed loses.none loses.may loses.others)
+
+-- ---- no record
+
+module _ (w t : Written) (b : Start) (a : Account) (h : StandsFor w b a) (keeps : KeepsRecords w t) where
+  kept_order : InOrder b.first h.durable t.records
+  kept_order = subst (λ (xs : List Placed). InOrder b.first h.durable xs) (sym keeps.records) h.order
+
+  kept_own : (name : ChunkName) → t.taking name ≡ true → b.found name ≡ None
+  kept_own name takes = elim (keeps.taking name takes) [
+    | inl before ↦ h.own name before
+    | inr fresh ↦ not_found_by (b.found name) (w.files name) _ _ _ (h.holds.at name fresh.0) fresh.1
+  ]
+
+  stand_same : HoldsBut w.partition b.found t.files w.gone h.durable h.kept h.lost → StandsFor t b a
+  stand_same holds = record {
+    base = subst (λ (p : ℕ). Base p b.found b.maps b.first) (sym keeps.partition) h.base;
+    durable = h.durable;
+    kept = h.kept;
+    lost = h.lost;
+    records = keeps.records ∙ h.records;
+    one_lost = h.one_lost ∙ ap (λ (y : Bool). if y then 1 else 0) (sym keeps.lost);
+    maps = h.maps ∙ sym keeps.maps;
+    tail = h.tail ∙ ap (λ (xs : List Placed). commands_of (records_of xs)) (sym keeps.records);
+    durable_maps = h.durable_maps;
+    kept_maps = h.kept_maps;
+    order = record {
+      low = h.order.low;
+      from = h.order.from;
+      rising = h.order.rising;
+      below = h.order.below;
+      since = subst (λ (xs : List Placed). Rising h.order.low (records_of xs)) (sym keeps.records) h.order.since;
+    };
+    below =
+        subst (λ (n : ℕ). All (λ r. seq_of r < n) (records_of (h.durable ++ t.records))) (sym keeps.next)
+        (subst (λ (xs : List Placed). All (λ r. seq_of r < w.next) (records_of (h.durable ++ xs))) (sym keeps.records) h.below);
+    from = omega (arith, h.from, keeps.next);
+    holds =
+        subst (λ (p : ℕ). HoldsBut p b.found t.files t.gone h.durable h.kept h.lost) (sym keeps.partition)
+        (holds_gone w.partition b.found t.files w.gone t.gone h.durable h.kept h.lost holds keeps.gone);
+    own = kept_own;
+  }
+
+  -- of its files a crash keeps more
+  pub stand_risen : PartRises w.partition w.files t.files → StandsFor t b a
+  stand_risen rises = stand_same (holds_risen w.partition b.found w.files t.files w.gone h.durable h.kept h.lost h.holds rises)
+
+  -- a file may have been created
+  pub stand_new : w.lost ≡ false → (name : ChunkName) → CreatesFile w t name → StandsFor t b a
+  stand_new whole name creates =
+      stand_same
+      (subst (λ (xs : List Placed). HoldsBut w.partition b.found t.files w.gone h.durable xs h.lost) (sym (all_kept w b a h whole))
+      (subst (λ (xs : List Placed). HoldsBut w.partition b.found t.files w.gone h.durable w.records xs) (sym (nothing_lost w b a h whole))
+      (holds_new w.partition b.found w.files w.gone h.durable w.records name (holds_all w b a h whole) creates.of
+      (not_found_by (b.found name) (w.files name) _ _ _ (h.holds.at name creates.of) creates.none) t.files creates.none creates.may creates.others)))
+
+unwritten_tail : (b : Bool) (cs : List Command) (c : Command) → b ≡ false → cs ≡ (if b then cs ++ c ∷ [] else cs)
+unwritten_tail true cs c e = cc
+unwritten_tail false cs c e = refl
+
+-- a command that changes nothing
+pub stand_unwritten : (w : Written) (b : Start) (a : Account) (c : Command) → StandsFor w b a → is_written c w.maps ≡ false → w.maps ≡ maps_after c w.maps → StandsFor w b (answered a c)
+stand_unwritten w b a c h unwritten same =
+    subst (λ (m : Entries). StandsFor w b (record { maps = m; durable = a.durable; tail = if is_written c a.maps then a.tail ++ c ∷ [] else a.tail }))
+    (h.maps ∙ same ∙ ap (maps_after c) (sym h.maps))
+    (subst (λ (cs : List Command). StandsFor w b (record { maps = a.maps; durable = a.durable; tail = cs }))
+    (unwritten_tail (is_written c a.maps) a.tail c (ap (is_written c) h.maps ∙ unwritten)) h)
+
+-- ---- an answered sync
+
+module _ (w : Written) (b : Start) (a : Account) (h : StandsFor w b a) where
+  -- all records in their order, as durable ones
+  all_order : InOrder b.first (h.durable ++ w.records) []
+  all_order = record {
+    low = w.next;
+    from = omega (arith, h.order.from, h.from);
+    rising =
+        subst (λ (rs : List Record). Rising b.first rs) (sym (records_of-append h.durable w.records))
+        (Rising-join b.first h.order.low (records_of h.durable) (records_of w.records) h.order.from h.order.rising h.order.below h.order.since);
+    below = h.below;
+    since = tt;
+  }
+
+-- all its records are durable
+pub stand_synced : (w t : Written) (b : Start) (a : Account) → StandsFor w b a → w.lost ≡ false → SyncsRecords w t → StandsFor t b (synced a)
+stand_synced w t b a h whole syncs = record {
+  base = subst (λ (p : ℕ). Base p b.found b.maps b.first) (sym syncs.partition) h.base;
+  durable = h.durable ++ w.records;
+  kept = [];
+  lost = [];
+  records = syncs.records;
+  one_lost = sym (ap (λ (y : Bool). if y then 1 else 0) syncs.lost);
+  maps = h.maps ∙ sym syncs.maps;
+  tail = sym (ap (λ (xs : List Placed). commands_of (records_of xs)) syncs.records);
+  durable_maps = all_maps w b a h whole;
+  kept_maps = all_maps w b a h whole ∙ ap (λ (xs : List Placed). maps_after_all (commands_of (records_of xs)) b.maps) (sym (append-nil (h.durable ++ w.records)));
+  order = order;
+  below =
+      subst (λ (xs : List Placed). All (λ r. seq_of r < t.next) (records_of ((h.durable ++ w.records) ++ xs))) (sym syncs.records)
+      (subst (λ (xs : List Placed). All (λ r. seq_of r < t.next) (records_of xs)) (sym (append-nil (h.durable ++ w.records)))
+      (subst (λ (n : ℕ). All (λ r. seq_of r < n) (records_of (h.durable ++ w.records))) (sym syncs.next) h.below));
+  from = omega (arith, syncs.next);
+  holds =
+      subst (λ (p : ℕ). HoldsBut p b.found t.files t.gone (h.durable ++ w.records) [] []) (sym syncs.partition)
+      (holds_gone w.partition b.found t.files w.gone t.gone (h.durable ++ w.records) [] []
+      (holds_synced w.partition b.found t.files w.gone h.durable w.records
+      (holds_risen w.partition b.found w.files t.files w.gone h.durable w.records [] (holds_all w b a h whole) syncs.rises)
+      (λ name of _. syncs.durable name of)) syncs.gone);
+  own = λ name takes. h.own name (syncs.taking name takes);
+} where
+  order : InOrder b.first (h.durable ++ w.records) t.records
+  order = record {
+    low = w.next;
+    from = omega (arith, h.order.from, h.from);
+    rising =
+        subst (λ (rs : List Record). Rising b.first rs) (sym (records_of-append h.durable w.records))
+        (Rising-join b.first h.order.low (records_of h.durable) (records_of w.records) h.order.from h.order.rising h.order.below h.order.since);
+    below = h.below;
+    since = subst (λ (xs : List Placed). Rising w.next (records_of xs)) (sym syncs.records) tt;
+  }
+
+-- ---- what it leaves
+
+-- every crash of its files recovers
+pub stand_survives : (w : Written) (b : Start) (a : Account) → StandsFor w b a → PartSurvives w.partition w.files w.gone a
+stand_survives w b a h image is =
+    subst (λ (m : Entries). Recovers image w.partition m a.tail) (sym h.durable_maps)
+    (subst (λ (cs : List Command). Recovers image w.partition (maps_after_all (commands_of (records_of h.durable)) b.maps) cs) (sym h.tail)
+    (files_recover w.partition b.found b.maps b.first w.files w.gone h.durable w.records h.base
+    (subst (λ (xs : List Placed). Holds w.partition b.found w.files w.gone h.durable xs) (sym h.records) (holds_but w.partition b.found w.files w.gone h.durable h.kept h.lost h.holds))
+    h.order image is))
+
+-- and without a record that may lack bytes, what is read of them restarts to its maps
+pub stand_exact : (w : Written) (b : Start) (a : Account) → StandsFor w b a → w.lost ≡ false → RestartsAs (λ name. option_map (λ file. file.bytes) (w.files name)) w.partition a.maps
+stand_exact w b a h whole =
+    subst (λ (m : Entries). RestartsAs (λ name. option_map (λ file. file.bytes) (w.files name)) w.partition m) (sym (all_maps w b a h whole))
+    (files_read w.partition b.found b.maps b.first w.files (h.durable ++ w.records) h.base
+    (holds_whole w.partition b.found w.files w.gone h.durable w.records (holds_all w b a h whole)) (all_order w b a h))

@@ -1,16 +1,16 @@
 -- A writer's facts: what it stands for, by what its files hold.
-use Rattle.std.specs.Prelude.{◌≡◌, ◌≢◌, ◌⊎◌, ℕ, ◌+◌, ◌<◌, ◌≤◌, Bool, true, false, List, [], ◌∷◌, ◌++◌, length, All, Some, None, if◌then◌else◌}
+use Rattle.std.specs.Prelude.{◌≡◌, ◌≢◌, ◌⊎◌, ℕ, ◌+◌, ◌<◌, ◌≤◌, Bool, true, false, List, [], ◌∷◌, ◌++◌, length, All, Some, None, IfSome, if◌then◌else◌}
 use Rattle.hr_base.specs.Entries.{Entries}
 use Rattle.hr_base.specs.declared.limits.TheConstants.{MAX_FILE_LEN}
 use Rattle.hr_base.specs.declared.name.ChunkName.{ChunkName}
-use Rattle.dir_files.specs.Files.{Files, Names, ChangesAt, SameAt, with_bytes}
+use Rattle.dir_files.specs.Files.{Files, Names, IsDurable, ChangesAt, SameAt, with_bytes}
 use Rattle.dir_files.specs.Images.{Image}
 use Rattle.record_format.specs.Spelling.{seq_of, spelling}
 use Rattle.crash_law.specs.Accounts.{Account}
 use Rattle.crash_law.specs.Commands.{maps_after_all}
 use Rattle.crash_law.specs.Numbered.{commands_of}
 use Rattle.crash_law.specs.Placed.{Placed, records_of, IsPlaced, Base, InOrder}
-use Rattle.crash_law.specs.Growth.{HoldsBut, MayBeNew, file_or_new}
+use Rattle.crash_law.specs.Growth.{HoldsBut, IsBegun, MayBeNew, PartRises, file_or_new}
 
 -- What a writer of a partition begins with: the files found then, the maps that they restart to, and its first number.
 pub record Start : Type 0 where
@@ -52,6 +52,16 @@ pub record StandsFor (w : Written) (b : Start) (a : Account) : Type 0 where
   pub holds : HoldsBut w.partition b.found w.files w.gone durable kept lost
   pub own : (name : ChunkName) → w.taking name ≡ true → b.found name ≡ None
 
+-- The writer begins: its files are those that were found, and it has these maps and no record of its own.
+pub record BeginsWith (w : Written) (b : Start) : Type 0 where
+  pub base : Base w.partition b.found b.maps b.first
+  pub begun : IsBegun w.partition b.found w.files w.gone
+  pub maps : w.maps ≡ b.maps
+  pub records : w.records ≡ []
+  pub next : w.next ≡ b.first
+  pub lost : w.lost ≡ false
+  pub taking : (name : ChunkName) → w.taking name ≡ false
+
 -- a chunk that takes records now did so before, or is of the partition and had no file
 abbrev pub TakesNew : Written → Written → Type 0
 TakesNew w t = (name : ChunkName) → t.taking name ≡ true → (w.taking name ≡ true) ⊎ ((name.partition.0 ≡ w.partition) × (w.files name ≡ None))
@@ -82,3 +92,32 @@ pub record LosesRecord (w t : Written) (x : Placed) : Type 0 where
   pub may : MayBeNew (t.files x.chunk)
   pub others : (other : ChunkName) → other ≢ x.chunk → t.files other ≡ w.files other
   pub noted : NotesRecord w t x
+
+-- what stays when nothing is put behind the records
+pub record KeepsRecords (w t : Written) : Type 0 where
+  pub partition : t.partition ≡ w.partition
+  pub gone : SameAt w.gone t.gone
+  pub maps : t.maps ≡ w.maps
+  pub records : t.records ≡ w.records
+  pub next : t.next ≡ w.next
+  pub lost : t.lost ≡ w.lost
+  pub taking : TakesNew w t
+
+-- a file of this name was created where there was none, or may have been
+pub record CreatesFile (w t : Written) (name : ChunkName) : Type 0 where
+  pub of : name.partition.0 ≡ w.partition
+  pub none : w.files name ≡ None
+  pub may : MayBeNew (t.files name)
+  pub others : (other : ChunkName) → other ≢ name → t.files other ≡ w.files other
+
+-- All files of the partition are durable, and hold what they held: no record waits for a sync.
+pub record SyncsRecords (w t : Written) : Type 0 where
+  pub partition : t.partition ≡ w.partition
+  pub gone : SameAt w.gone t.gone
+  pub rises : PartRises w.partition w.files t.files
+  pub durable : (name : ChunkName) → name.partition.0 ≡ w.partition → IfSome (t.files name) IsDurable
+  pub maps : t.maps ≡ w.maps
+  pub records : t.records ≡ []
+  pub next : t.next ≡ w.next
+  pub lost : t.lost ≡ false
+  pub taking : (name : ChunkName) → t.taking name ≡ true → w.taking name ≡ true

@@ -6,6 +6,7 @@ mod command_laws;
 mod crash_laws;
 mod file_laws;
 mod growth_laws;
+mod writer_laws;
 
 pub use command_laws::{
     empty_tail_fits_itself, last_decides, maps_after_commands, state_of_own_commands,
@@ -17,4 +18,8 @@ pub use file_laws::{held_records_recover, whole_records_restart};
 pub use growth_laws::{
     a_beginning_is_held, a_begun_file_is_held, a_sync_is_held, an_appended_record_is_held,
     what_is_held_but_for_some,
+};
+pub use writer_laws::{
+    a_begun_writer_stands, a_command_stands, a_kept_writer_stands, a_synced_writer_stands,
+    what_a_writer_leaves,
 };
