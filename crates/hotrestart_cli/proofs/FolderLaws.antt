@@ -18,7 +18,7 @@ use Rattle.crash_law.specs.Crashes.{AllSurvive, PartSurvives, Recovers}
 use Rattle.crash_law.specs.Restarts.{AllRestart, IsSoundPart, IsRestartOf, Fact, RestartsAs}
 use Rattle.script_text.specs.declared.line.Line.{Line}
 use Rattle.script_text.specs.Replies.{replies}
-use Rattle.partition_writer.specs.Standing.{Standing, StandsFor}
+use Rattle.partition_writer.specs.Standing.{Standing, StandsInOneChunk}
 use Rattle.partition_writer.specs.Stored.{first_chunk}
 use Rattle.hotrestart_cli.specs.declared.ended.Ended.{Ended}
 use Rattle.hotrestart_cli.specs.declared.ended.Ended.TheVariants.{Whole, Words, TooLong, BadLine, Input, Sink, Disk, NotBuilt, Memory}
@@ -198,10 +198,10 @@ vacant_before old new s v n = unsynced_none (old.held n) (sym (s.held n) ∙ v n
 -- a session that began over a folder without files
 pub session_ran : (tells : Bool) (lines : List Line) (start forked now : Port) (closed : Port) (s t : Standing) (before after : Option (List ℕ)) (ended : Ended)
     → Played tells lines s t before after ended → s.maps ≡ empty → lines_size lines ≤ 2 ^ 27
-    → (tells ≡ true → IsVacant start) → (tells ≡ true → SamePort start forked) → (tells ≡ true → Joins forked closed now) → (tells ≡ true → StandsFor s (fresh_account empty) 0)
-    → (tells ≡ true → (a : Account) (size : ℕ) → StandsFor t a size → IsGivenBack closed)
-    → (tells ≡ true → (a : Account) (size : ℕ) → StandsFor t a size → size ≤ 2 ^ 27 → LeftBy closed a)
-    → (tells ≡ true → (a : Account) (size : ℕ) → StandsFor t a size → size ≤ 2 ^ 27 → t.lost ≡ false → RestartsAs (read_of closed) 0 a.maps) → Ran tells lines start now before after ended
+    → (tells ≡ true → IsVacant start) → (tells ≡ true → SamePort start forked) → (tells ≡ true → Joins forked closed now) → (tells ≡ true → StandsInOneChunk s (fresh_account empty) 0)
+    → (tells ≡ true → (a : Account) (size : ℕ) → StandsInOneChunk t a size → IsGivenBack closed)
+    → (tells ≡ true → (a : Account) (size : ℕ) → StandsInOneChunk t a size → size ≤ 2 ^ 27 → LeftBy closed a)
+    → (tells ≡ true → (a : Account) (size : ℕ) → StandsInOneChunk t a size → size ≤ 2 ^ 27 → t.lost ≡ false → RestartsAs (read_of closed) 0 a.maps) → Ran tells lines start now before after ended
 session_ran tells lines start forked now closed s t before after ended played maps small vacant same joined stands given leaves reads = inr (record {
   count = played.count;
   within = played.within;
@@ -216,7 +216,7 @@ session_ran tells lines start forked now closed s t before after ended played ma
       (leaves y _ (0 + lines_size lines) (stood y) (omega (arith, small))).others
       (reads y _ (0 + lines_size lines) (stood y) (omega (arith, small)) ((stood y).lost_halts (none_halted t.halted (played.running sound))));
 }) where
-  stood : tells ≡ true → StandsFor t (accounts_at ended lines played.count (λ _. fresh_account empty) 0) (0 + lines_size lines)
+  stood : tells ≡ true → StandsInOneChunk t (accounts_at ended lines played.count (λ _. fresh_account empty) 0) (0 + lines_size lines)
   stood y = played.account y (λ _. fresh_account empty) 0 (stands y)
 
   none_halted : (h : Option ℕ) → h ≡ None → is_none h ≡ true

@@ -10,7 +10,7 @@ use Rattle.crash_law.specs.Accounts.{Account}
 use Rattle.script_text.specs.declared.line.Line.{Line}
 use Rattle.script_text.specs.Lines.{partition_of}
 use Rattle.script_text.specs.Replies.{changed_at, replies, text_after, maps_after_line, maps_after_one, maps_after_lines}
-use Rattle.partition_writer.specs.Standing.{Standing, StandsFor}
+use Rattle.partition_writer.specs.Standing.{Standing, StandsInOneChunk}
 use Rattle.hotrestart_cli.specs.declared.ended.Ended.TheVariants.{Whole, Sink, Disk, Memory}
 use Rattle.hotrestart_cli.specs.Session.{account_after_line, accounts_after_lines, account_after_refused, accounts_after_refused, line_size, lines_size, Played}
 
@@ -41,7 +41,7 @@ pub record SoFar (tells : Bool) (lines : List Line) (count : ℕ) (old new : Sta
   pub text : (m : ℕ → Entries) → m 0 ≡ old.maps → Takes before now (replies (take count lines) m)
   pub running : new.halted ≡ None
   pub numbers : new.next ≤ old.next + count
-  pub account : tells ≡ true → (a : ℕ → Account) (size : ℕ) → StandsFor old (a 0) size → StandsFor new (accounts_after_lines (take count lines) a 0) (size + lines_size (take count lines))
+  pub account : tells ≡ true → (a : ℕ → Account) (size : ℕ) → StandsInOneChunk old (a 0) size → StandsInOneChunk new (accounts_after_lines (take count lines) a 0) (size + lines_size (take count lines))
 
 -- the line at this place
 module _ (lines : List Line) (i : ℕ) (line : Line) (within : i < length lines) (is : line ≡ slice_index_or lines i line) where
@@ -52,8 +52,8 @@ module _ (lines : List Line) (i : ℕ) (line : Line) (within : i < length lines)
   size_more = ap lines_size one_more ∙ sum_by-append line_size (take i lines) (line ∷ []) ∙ ap (λ (n : ℕ). lines_size (take i lines) + n) (omega arith)
 
 -- a larger bound serves too
-pub StandsFor-more : (s : Standing) (a : Account) (size more : ℕ) → StandsFor s a size → size ≤ more → StandsFor s a more
-StandsFor-more s a size more h fits = record {
+pub StandsInOneChunk-more : (s : Standing) (a : Account) (size more : ℕ) → StandsInOneChunk s a size → size ≤ more → StandsInOneChunk s a more
+StandsInOneChunk-more s a size more h fits = record {
   durable = h.durable;
   kept = h.kept;
   lost = h.lost;
@@ -97,7 +97,7 @@ module _ (lines : List Line) (i : ℕ) (line : Line) (within : i < length lines)
   pub SoFar-more : (tells : Bool) (old mid new : Standing) (before then' now : Option (List ℕ)) (text : List ℕ)
       → SoFar tells lines i old mid before then'
       → text ≡ text_after line mid.maps → new.maps ≡ maps_after_line line mid.maps → new.halted ≡ None → new.next ≤ mid.next + 1
-      → (tells ≡ true → (a : Account) (size : ℕ) → StandsFor mid a size → StandsFor new (account_after_line line a) (size + line_size line))
+      → (tells ≡ true → (a : Account) (size : ℕ) → StandsInOneChunk mid a size → StandsInOneChunk new (account_after_line line a) (size + line_size line))
       → Takes then' now text → SoFar tells lines (i + 1) old new before now
   SoFar-more tells old mid new before then' now text so text_is maps running numbers account took = record {
     maps = λ m e. maps ∙ ap (maps_after_line line) (so.maps m e) ∙ sym (maps_more m);
@@ -108,8 +108,8 @@ module _ (lines : List Line) (i : ℕ) (line : Line) (within : i < length lines)
     running = running;
     numbers = omega (arith, numbers, so.numbers);
     account = λ t a size h.
-        subst (λ (b : Account). StandsFor new b (size + lines_size (take (i + 1) lines))) (sym (account_more a))
-        (StandsFor-more new _ _ _ (account t _ _ (so.account t a size h)) (omega (arith, size_more lines i line within is)));
+        subst (λ (b : Account). StandsInOneChunk new b (size + lines_size (take (i + 1) lines))) (sym (account_more a))
+        (StandsInOneChunk-more new _ _ _ (account t _ _ (so.account t a size h)) (omega (arith, size_more lines i line within is)));
   }
 
 -- before the first line
@@ -119,7 +119,7 @@ SoFar-none tells lines s before running = record {
   text = λ m e. Takes-nothing before;
   running = running;
   numbers = omega arith;
-  account = λ t a size h. StandsFor-more s (a 0) size _ h (omega arith);
+  account = λ t a size h. StandsInOneChunk-more s (a 0) size _ h (omega arith);
 }
 
 -- ---- how a session ends
@@ -147,13 +147,13 @@ played_whole tells lines i old new before now so end =
       text = λ m e. subst (λ (ls : List Line). Takes before now (replies ls m)) all (so.text m e);
       running = λ _. so.running;
       account = λ t a size h.
-          subst (λ (ls : List Line). StandsFor new (accounts_after_lines ls a 0) (size + lines_size lines)) (all ∙ sym same)
-          (StandsFor-more new _ _ _ (so.account t a size h) (omega (arith, sizes_within i lines)));
+          subst (λ (ls : List Line). StandsInOneChunk new (accounts_after_lines ls a 0) (size + lines_size lines)) (all ∙ sym same)
+          (StandsInOneChunk-more new _ _ _ (so.account t a size h) (omega (arith, sizes_within i lines)));
     }
 
 -- there was no memory for a line
 pub played_unanswered : (tells : Bool) (lines : List Line) (i : ℕ) (old mid new : Standing) (before now : Option (List ℕ)) → SoFar tells lines i old mid before now → i < length lines
-    → new.halted ≡ None → (extra : ℕ) → (tells ≡ true → (a : Account) (size : ℕ) → StandsFor mid a size → StandsFor new a (size + extra)) → lines_size (take i lines) + extra ≤ lines_size lines
+    → new.halted ≡ None → (extra : ℕ) → (tells ≡ true → (a : Account) (size : ℕ) → StandsInOneChunk mid a size → StandsInOneChunk new a (size + extra)) → lines_size (take i lines) + extra ≤ lines_size lines
     → Played tells lines old new before now Memory
 played_unanswered tells lines i old mid new before now so within running extra account fits = record {
   count = i;
@@ -161,7 +161,7 @@ played_unanswered tells lines i old mid new before now so within running extra a
   all = λ e. cc;
   text = λ m e. (i, omega arith, omega arith, so.text m e);
   running = λ _. running;
-  account = λ t a size h. StandsFor-more new _ _ _ (account t _ _ (so.account t a size h)) (omega (arith, fits));
+  account = λ t a size h. StandsInOneChunk-more new _ _ _ (account t _ _ (so.account t a size h)) (omega (arith, fits));
 }
 
 module _ (lines : List Line) (i : ℕ) (line : Line) (within : i < length lines) (is : line ≡ slice_index_or lines i line) (of : partition_of line ≡ 0) where
@@ -170,7 +170,7 @@ module _ (lines : List Line) (i : ℕ) (line : Line) (within : i < length lines)
 
   -- there was no memory for a reply
   pub played_no_reply : (tells : Bool) (old mid new : Standing) (before now : Option (List ℕ)) → SoFar tells lines i old mid before now → new.halted ≡ None
-      → (tells ≡ true → (a : Account) (size : ℕ) → StandsFor mid a size → StandsFor new (account_after_line line a) (size + line_size line)) → Played tells lines old new before now Memory
+      → (tells ≡ true → (a : Account) (size : ℕ) → StandsInOneChunk mid a size → StandsInOneChunk new (account_after_line line a) (size + line_size line)) → Played tells lines old new before now Memory
   played_no_reply tells old mid new before now so running account = record {
     count = i + 1;
     within = omega (arith, within);
@@ -178,13 +178,13 @@ module _ (lines : List Line) (i : ℕ) (line : Line) (within : i < length lines)
     text = λ m e. (i, omega arith, omega arith, so.text m e);
     running = λ _. running;
     account = λ t a size h.
-        subst (λ (b : Account). StandsFor new b (size + lines_size lines)) (sym (account_more lines i line within is of a))
-        (StandsFor-more new _ _ _ (account t _ _ (so.account t a size h)) (omega (arith, size_fits)));
+        subst (λ (b : Account). StandsInOneChunk new b (size + lines_size lines)) (sym (account_more lines i line within is of a))
+        (StandsInOneChunk-more new _ _ _ (account t _ _ (so.account t a size h)) (omega (arith, size_fits)));
   }
 
   -- the disk refused a line
   pub played_refused : (tells : Bool) (old mid new : Standing) (before now : Option (List ℕ)) → SoFar tells lines i old mid before now
-      → (tells ≡ true → (a : Account) (size : ℕ) → StandsFor mid a size → StandsFor new (account_after_refused line a) (size + line_size line)) → Played tells lines old new before now Disk
+      → (tells ≡ true → (a : Account) (size : ℕ) → StandsInOneChunk mid a size → StandsInOneChunk new (account_after_refused line a) (size + line_size line)) → Played tells lines old new before now Disk
   played_refused tells old mid new before now so account = record {
     count = i;
     within = omega (arith, within);
@@ -192,15 +192,15 @@ module _ (lines : List Line) (i : ℕ) (line : Line) (within : i < length lines)
     text = so.text;
     running = λ other. absurd (other refl);
     account = λ t a size h.
-        subst (λ (o : Option Line). StandsFor new (accounts_after_refused o (accounts_after_lines (take i lines) a) 0) (size + lines_size lines)) (sym (slice_get_at lines i line within is))
-        (subst (λ (b : Account). StandsFor new b (size + lines_size lines)) (sym (account_lost lines i line within is of (accounts_after_lines (take i lines) a)))
-        (StandsFor-more new _ _ _ (account t _ _ (so.account t a size h)) (omega (arith, size_fits))));
+        subst (λ (o : Option Line). StandsInOneChunk new (accounts_after_refused o (accounts_after_lines (take i lines) a) 0) (size + lines_size lines)) (sym (slice_get_at lines i line within is))
+        (subst (λ (b : Account). StandsInOneChunk new b (size + lines_size lines)) (sym (account_lost lines i line within is of (accounts_after_lines (take i lines) a)))
+        (StandsInOneChunk-more new _ _ _ (account t _ _ (so.account t a size h)) (omega (arith, size_fits))));
   }
 
   -- the sink failed at a reply
   pub played_untaken : (tells : Bool) (old mid new : Standing) (before then' now : Option (List ℕ)) (text : List ℕ) → SoFar tells lines i old mid before then'
       → text ≡ text_after line mid.maps → new.halted ≡ None
-      → (tells ≡ true → (a : Account) (size : ℕ) → StandsFor mid a size → StandsFor new (account_after_line line a) (size + line_size line))
+      → (tells ≡ true → (a : Account) (size : ℕ) → StandsInOneChunk mid a size → StandsInOneChunk new (account_after_line line a) (size + line_size line))
       → TakesFront then' now text → Played tells lines old new before now Sink
   played_untaken tells old mid new before then' now text so text_is running account took = record {
     count = i + 1;
@@ -215,6 +215,6 @@ module _ (lines : List Line) (i : ℕ) (line : Line) (within : i < length lines)
           (TakesAtLeast-append before then' now (replies (take i lines) m) text (so.text m e) took),
     );
     account = λ t a size h.
-        subst (λ (b : Account). StandsFor new b (size + lines_size lines)) (sym (account_more lines i line within is of a))
-        (StandsFor-more new _ _ _ (account t _ _ (so.account t a size h)) (omega (arith, size_fits)));
+        subst (λ (b : Account). StandsInOneChunk new b (size + lines_size lines)) (sym (account_more lines i line within is of a))
+        (StandsInOneChunk-more new _ _ _ (account t _ _ (so.account t a size h)) (omega (arith, size_fits)));
   }

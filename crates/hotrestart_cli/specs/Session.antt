@@ -8,7 +8,7 @@ use Rattle.script_text.specs.declared.line.Line.{Line}
 use Rattle.script_text.specs.declared.line.Line.TheVariants.{Put, Remove, Clear, Get, Sync}
 use Rattle.script_text.specs.Lines.{partition_of}
 use Rattle.script_text.specs.Replies.{changed_at, command_of_line, maps_after_line, replies, text_after}
-use Rattle.partition_writer.specs.Standing.{Standing, StandsFor}
+use Rattle.partition_writer.specs.Standing.{Standing, StandsInOneChunk}
 use Rattle.hotrestart_cli.specs.declared.ended.Ended.{Ended}
 use Rattle.hotrestart_cli.specs.declared.ended.Ended.TheVariants.{Whole, Words, TooLong, BadLine, Input, Sink, Disk, NotBuilt, Memory}
 use Rattle.hotrestart_cli.specs.declared.step.Step.{Step}
@@ -102,4 +102,4 @@ pub record Played (tells : Bool) (lines : List Line) (old new : Standing) (befor
   pub text : (maps : ℕ → Entries) → maps 0 ≡ old.maps → TextAt ended lines count maps before now
   -- and unless the disk refused a line, the writer goes on
   pub running : (ended ≡ Disk → ⊥) → new.halted ≡ None
-  pub account : tells ≡ true → (accounts : ℕ → Account) (size : ℕ) → StandsFor old (accounts 0) size → StandsFor new (accounts_at ended lines count accounts 0) (size + lines_size lines)
+  pub account : tells ≡ true → (accounts : ℕ → Account) (size : ℕ) → StandsInOneChunk old (accounts 0) size → StandsInOneChunk new (accounts_at ended lines count accounts 0) (size + lines_size lines)

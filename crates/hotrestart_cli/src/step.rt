@@ -3,7 +3,7 @@
 ghost use Rattle.std.specs.Prelude.{◌≡◌, ◌<◌, ◌≤◌, ◌^◌, ◌+◌, ◌⊎◌, ◌++◌, ℕ, true, [], length, None};
 ghost use Rattle.hr_base.specs.Counts.{Rose};
 ghost use Rattle.crash_law.specs.Accounts.{Account};
-ghost use Rattle.partition_writer.specs.Standing.{StandsFor};
+ghost use Rattle.partition_writer.specs.Standing.{StandsInOneChunk};
 ghost use Rattle.partition_writer.specs.WriterViews.{standing};
 ghost use Rattle.script_text.specs.declared.line.Line.{Line};
 ghost use Rattle.hotrestart_cli.specs.Scripts.{IsPlayable};
@@ -55,8 +55,8 @@ fn answer_put<F: Folder>(
     requires room { (standing writer.old).next < SEQ_END }
     requires cleared { text.old.items ≡ [] }
     ensures replies { Replies result (Line.Put p prefix key.now value.now) (standing writer.old) (standing writer.new) text.new.items }
-    ensures account { F.tells ≡ true → (a : Account) (size : ℕ) → StandsFor (standing writer.old) a size
-        → StandsFor (standing writer.new) (account_after_step result (Line.Put p prefix key.now value.now) a) (size + line_size (Line.Put p prefix key.now value.now)) }
+    ensures account { F.tells ≡ true → (a : Account) (size : ℕ) → StandsInOneChunk (standing writer.old) a size
+        → StandsInOneChunk (standing writer.new) (account_after_step result (Line.Put p prefix key.now value.now) a) (size + line_size (Line.Put p prefix key.now value.now)) }
     ensures fault { result ≡ Step.DiskFailed → Rose (standing writer.old).faults (standing writer.new).faults }
     ensures kept { (standing writer.old).faults ≤ (standing writer.new).faults }
 {
@@ -82,8 +82,8 @@ fn answer_get<F: Folder>(
     requires room { (standing writer.old).next < SEQ_END }
     requires cleared { text.old.items ≡ [] }
     ensures replies { Replies result (Line.Get p prefix key.now) (standing writer.old) (standing writer.new) text.new.items }
-    ensures account { F.tells ≡ true → (a : Account) (size : ℕ) → StandsFor (standing writer.old) a size
-        → StandsFor (standing writer.new) (account_after_step result (Line.Get p prefix key.now) a) (size + line_size (Line.Get p prefix key.now)) }
+    ensures account { F.tells ≡ true → (a : Account) (size : ℕ) → StandsInOneChunk (standing writer.old) a size
+        → StandsInOneChunk (standing writer.new) (account_after_step result (Line.Get p prefix key.now) a) (size + line_size (Line.Get p prefix key.now)) }
     ensures fault { result ≡ Step.DiskFailed → Rose (standing writer.old).faults (standing writer.new).faults }
     ensures kept { (standing writer.old).faults ≤ (standing writer.new).faults }
 {
@@ -99,8 +99,8 @@ fn answer_sync<F: Folder>(writer: &mut Writer<F>, p: Partition, text: &mut Vec<u
     requires room { (standing writer.old).next < SEQ_END }
     requires cleared { text.old.items ≡ [] }
     ensures replies { Replies result (Line.Sync p) (standing writer.old) (standing writer.new) text.new.items }
-    ensures account { F.tells ≡ true → (a : Account) (size : ℕ) → StandsFor (standing writer.old) a size
-        → StandsFor (standing writer.new) (account_after_step result (Line.Sync p) a) (size + line_size (Line.Sync p)) }
+    ensures account { F.tells ≡ true → (a : Account) (size : ℕ) → StandsInOneChunk (standing writer.old) a size
+        → StandsInOneChunk (standing writer.new) (account_after_step result (Line.Sync p) a) (size + line_size (Line.Sync p)) }
     ensures fault { result ≡ Step.DiskFailed → Rose (standing writer.old).faults (standing writer.new).faults }
     ensures kept { (standing writer.old).faults ≤ (standing writer.new).faults }
 {
@@ -119,8 +119,8 @@ pub fn answer<F: Folder>(writer: &mut Writer<F>, line: &Line, text: &mut Vec<u8>
     requires running { (standing writer.old).halted ≡ None }
     requires room { (standing writer.old).next < SEQ_END }
     ensures replies { Replies result line.now (standing writer.old) (standing writer.new) text.new.items }
-    ensures account { F.tells ≡ true → (a : Account) (size : ℕ) → StandsFor (standing writer.old) a size
-        → StandsFor (standing writer.new) (account_after_step result line.now a) (size + line_size line.now) }
+    ensures account { F.tells ≡ true → (a : Account) (size : ℕ) → StandsInOneChunk (standing writer.old) a size
+        → StandsInOneChunk (standing writer.new) (account_after_step result line.now a) (size + line_size line.now) }
     ensures fault { result ≡ Step.DiskFailed → Rose (standing writer.old).faults (standing writer.new).faults }
     ensures kept { (standing writer.old).faults ≤ (standing writer.new).faults }
 {

@@ -20,7 +20,7 @@ use Rattle.crash_law.specs.Restarts.{Fact, IsRestartOf, RestartsAs}
 use Rattle.crash_law.proofs.RestartLaws.{Fits-nothing_else}
 use Rattle.partition_writer.specs.OneChunk.{HasRecords}
 use Rattle.partition_writer.specs.Stored.{first_chunk, LeftAt, ClosesStored}
-use Rattle.partition_writer.specs.Standing.{Standing, StandsFor}
+use Rattle.partition_writer.specs.Standing.{Standing, StandsInOneChunk}
 use Rattle.partition_writer.proofs.OneChunkLaws.{survives}
 use Rattle.partition_writer.proofs.StandingLaws.{stores_whole, all_maps}
 
@@ -38,7 +38,7 @@ has_records (Some file) durable tail missing h = record {
 }
 
 -- every crash of what a closed writer leaves recovers
-pub leaves : (s : Standing) (a : Account) (size : ℕ) (port : Port) → StandsFor s a size → size ≤ MAX_FILE_LEN → ClosesStored s.chunk port → PartSurvives 0 port.held port.gone a
+pub leaves : (s : Standing) (a : Account) (size : ℕ) (port : Port) → StandsInOneChunk s a size → size ≤ MAX_FILE_LEN → ClosesStored s.chunk port → PartSurvives 0 port.held port.gone a
 leaves s a size port h small closes =
     let closed = closes (length (spellings h.durable)) (spellings (h.durable ++ s.records)) h.missing h.stores in
     survives 0 port.held port.gone first_chunk h.durable s.records h.missing a
@@ -71,7 +71,7 @@ none_read None e = refl
 none_read (Some file) e = cc
 
 -- where no record may lack bytes, what is read of a closed writer restarts to its maps
-pub reads : (s : Standing) (a : Account) (size : ℕ) (port : Port) → StandsFor s a size → size ≤ MAX_FILE_LEN → s.lost ≡ false → ClosesStored s.chunk port → RestartsAs (read_of port) 0 a.maps
+pub reads : (s : Standing) (a : Account) (size : ℕ) (port : Port) → StandsInOneChunk s a size → size ≤ MAX_FILE_LEN → s.lost ≡ false → ClosesStored s.chunk port → RestartsAs (read_of port) 0 a.maps
 reads s a size port h small none closes =
     let all : List Record = h.durable ++ s.records in
     let closed = closes (length (spellings h.durable)) (spellings all) [] (stores_whole s a size h none) in

@@ -17,10 +17,10 @@ use Rattle.crash_law.specs.Accounts.{Account, fresh_account, answered, refused, 
 use Rattle.crash_law.specs.Commands.{Command, Put, command_of, maps_after, maps_after_all}
 use Rattle.crash_law.specs.Numbered.{Rising, commands_of}
 use Rattle.partition_writer.specs.Stored.{first_chunk, Handle, ChunkState, StoredAt, Stores, KeepsStored, StoresMore, StoresFront, StoresDurably}
-use Rattle.partition_writer.specs.Standing.{Standing, StandsFor, put_record, Writes, Puts, LosesPut, KeepsRecords, Syncs, HoldsRecord, HoldsTail}
+use Rattle.partition_writer.specs.Standing.{Standing, StandsInOneChunk, put_record, Writes, Puts, LosesPut, LeavesRecords, Syncs, HoldsRecord, HoldsTail}
 
 -- a writer that begins stands for empty maps
-pub stand_begin : (s : Standing) → s.maps ≡ map.empty → s.records ≡ [] → s.lost ≡ false → Stores s.chunk 0 [] [] → StandsFor s (fresh_account map.empty) 0
+pub stand_begin : (s : Standing) → s.maps ≡ map.empty → s.records ≡ [] → s.lost ≡ false → Stores s.chunk 0 [] [] → StandsInOneChunk s (fresh_account map.empty) 0
 stand_begin s maps records lost stores = record {
   durable = [];
   kept = [];
@@ -43,7 +43,7 @@ stand_begin s maps records lost stores = record {
 
 -- ---- a writer with no record that may lack bytes
 
-module _ (s : Standing) (a : Account) (size : ℕ) (h : StandsFor s a size) (none : s.lost ≡ false) where
+module _ (s : Standing) (a : Account) (size : ℕ) (h : StandsInOneChunk s a size) (none : s.lost ≡ false) where
   nothing_lost : h.lost ≡ []
   nothing_lost = nil_from_length h.lost (h.one_lost ∙ ap (λ (b : Bool). if b then 1 else 0) none)
 
@@ -80,7 +80,7 @@ some_not_none : {A : Type 0} (x : Option A) (y : A) → x ≡ Some y → is_none
 some_not_none x y e n = cc
 
 -- it stands at the end of the file, whole or torn
-module _ (s t : Standing) (a : Account) (size : ℕ) (h : StandsFor s a size) (running : is_none s.halted ≡ true) (r : Record)
+module _ (s t : Standing) (a : Account) (size : ℕ) (h : StandsInOneChunk s a size) (running : is_none s.halted ≡ true) (r : Record)
     (numbered : seq_of r ≡ s.next) (some : 1 ≤ s.next) (valid : IsOfClass Values r) (writes : Writes r s t) where
   more : h.durable ++ t.records ≡ (h.durable ++ s.records) ++ r ∷ []
   more = ap (λ (rs : List Record). h.durable ++ rs) writes.records ∙ sym (append_assoc h.durable s.records (r ∷ []))
@@ -121,7 +121,7 @@ module _ (s t : Standing) (a : Account) (size : ℕ) (h : StandsFor s a size) (r
   -- the record was written whole, and its command changed the maps
   pub stand_more : (more_size : ℕ) → size + length (spelling r) ≤ more_size → t.lost ≡ s.lost → maps_after (command_of r) a.maps ≡ t.maps
       → StoresMore (spelling r) s.chunk t.chunk
-      → StandsFor t (record { maps = maps_after (command_of r) a.maps; durable = a.durable; tail = a.tail ++ command_of r ∷ [] }) more_size
+      → StandsInOneChunk t (record { maps = maps_after (command_of r) a.maps; durable = a.durable; tail = a.tail ++ command_of r ∷ [] }) more_size
   stand_more more_size fits lost maps stores =
       let none : t.lost ≡ false = lost ∙ h.lost_halts running in
       record {
@@ -146,7 +146,7 @@ module _ (s t : Standing) (a : Account) (size : ℕ) (h : StandsFor s a size) (r
 
   -- the disk refused the record: it may lack bytes, and its command changed no maps
   pub stand_less : (more_size at : ℕ) → size + length (spelling r) ≤ more_size → t.lost ≡ true → t.halted ≡ Some at → t.maps ≡ s.maps
-      → StoresFront (spelling r) s.chunk t.chunk → StandsFor t (refused a (command_of r)) more_size
+      → StoresFront (spelling r) s.chunk t.chunk → StandsInOneChunk t (refused a (command_of r)) more_size
   stand_less more_size at fits lost halted maps stores =
       let after = stores (length (spellings h.durable)) (spellings (h.durable ++ s.records)) (stores_whole s a size h (h.lost_halts running)) in
       record {
@@ -170,24 +170,24 @@ module _ (s t : Standing) (a : Account) (size : ℕ) (h : StandsFor s a size) (r
       }
 
 -- the writer answered a put
-pub stand_put : (s t : Standing) (a : Account) (size : ℕ) (prefix : ℕ) (key value : List ℕ) (more_size : ℕ) → StandsFor s a size → is_none s.halted ≡ true → 1 ≤ s.next
+pub stand_put : (s t : Standing) (a : Account) (size : ℕ) (prefix : ℕ) (key value : List ℕ) (more_size : ℕ) → StandsInOneChunk s a size → is_none s.halted ≡ true → 1 ≤ s.next
     → IsOfClass Values (put_record s.next prefix key value) → size + length (spelling (put_record s.next prefix key value)) ≤ more_size
     → Puts s t prefix key value → StoresMore (spelling (put_record s.next prefix key value)) s.chunk t.chunk
-    → StandsFor t (answered a (Put prefix key value)) more_size
+    → StandsInOneChunk t (answered a (Put prefix key value)) more_size
 stand_put s t a size prefix key value more_size h running some valid fits puts stores =
     stand_more s t a size h running (put_record s.next prefix key value) refl some valid puts.writes more_size fits puts.lost
     (ap (λ (m : Entries). maps_after (Put prefix key value) m) h.maps ∙ sym puts.maps) stores
 
 -- the disk refused a put
-pub stand_lost : (s t : Standing) (a : Account) (size : ℕ) (prefix : ℕ) (key value : List ℕ) (more_size at : ℕ) → StandsFor s a size → is_none s.halted ≡ true → 1 ≤ s.next
+pub stand_lost : (s t : Standing) (a : Account) (size : ℕ) (prefix : ℕ) (key value : List ℕ) (more_size at : ℕ) → StandsInOneChunk s a size → is_none s.halted ≡ true → 1 ≤ s.next
     → IsOfClass Values (put_record s.next prefix key value) → size + length (spelling (put_record s.next prefix key value)) ≤ more_size
     → LosesPut s t prefix key value → t.halted ≡ Some at → StoresFront (spelling (put_record s.next prefix key value)) s.chunk t.chunk
-    → StandsFor t (refused a (Put prefix key value)) more_size
+    → StandsInOneChunk t (refused a (Put prefix key value)) more_size
 stand_lost s t a size prefix key value more_size at h running some valid fits loses halted stores =
     stand_less s t a size h running (put_record s.next prefix key value) refl some valid loses.writes more_size at fits loses.lost halted loses.maps stores
 
 -- a call changed nothing but the folder's side
-pub stand_kept : (s t : Standing) (a : Account) (size : ℕ) → StandsFor s a size → is_none s.halted ≡ true → KeepsRecords s t → KeepsStored s.chunk t.chunk → StandsFor t a size
+pub stand_kept : (s t : Standing) (a : Account) (size : ℕ) → StandsInOneChunk s a size → is_none s.halted ≡ true → LeavesRecords s t → KeepsStored s.chunk t.chunk → StandsInOneChunk t a size
 stand_kept s t a size h running keeps stores =
     let same = ap (λ (rs : List Record). h.durable ++ rs) keeps.records in
     let none : s.lost ≡ false = h.lost_halts running in
@@ -214,7 +214,7 @@ stand_kept s t a size h running keeps stores =
     }
 
 -- the writer answered a sync
-pub stand_synced : (s t : Standing) (a : Account) (size : ℕ) → StandsFor s a size → is_none s.halted ≡ true → Syncs s t → StoresDurably s.chunk t.chunk → StandsFor t (synced a) size
+pub stand_synced : (s t : Standing) (a : Account) (size : ℕ) → StandsInOneChunk s a size → is_none s.halted ≡ true → Syncs s t → StoresDurably s.chunk t.chunk → StandsInOneChunk t (synced a) size
 stand_synced s t a size h running syncs stores =
     let all : List Record = h.durable ++ s.records in
     let same : all ++ t.records ≡ all = ap (λ (rs : List Record). all ++ rs) syncs.records ∙ append-nil all in
@@ -259,7 +259,7 @@ some_bytes [] r h = absurd (omega (arith, h.1))
 some_bytes (x ∷ xs) r h = omega (arith, spelling_fills x, length-append (spelling x) (spellings xs))
 
 -- the record of each command but a lost one is whole in the file
-module _ (s : Standing) (a : Account) (size : ℕ) (h : StandsFor s a size) where
+module _ (s : Standing) (a : Account) (size : ℕ) (h : StandsInOneChunk s a size) where
   abbrev all : List Record
   all = h.durable ++ s.records
 
@@ -296,12 +296,12 @@ module _ (s : Standing) (a : Account) (size : ℕ) (h : StandsFor s a size) wher
       }
 
 -- where no record may lack bytes, that of each command of the tail is whole in the file
-pub holds_tail : (s : Standing) (a : Account) (size : ℕ) → StandsFor s a size → s.lost ≡ false → HoldsTail s
+pub holds_tail : (s : Standing) (a : Account) (size : ℕ) → StandsInOneChunk s a size → s.lost ≡ false → HoldsTail s
 holds_tail s a size h none r has = kept_whole s a size h r (subst (λ (rs : List Record). Contains rs r) (sym (all_kept s a size h none)) has)
 
 -- a larger bound serves too
-pub StandsFor-more : (s : Standing) (a : Account) (size more : ℕ) → StandsFor s a size → size ≤ more → StandsFor s a more
-StandsFor-more s a size more h fits = record {
+pub StandsInOneChunk-more : (s : Standing) (a : Account) (size more : ℕ) → StandsInOneChunk s a size → size ≤ more → StandsInOneChunk s a more
+StandsInOneChunk-more s a size more h fits = record {
   durable = h.durable;
   kept = h.kept;
   lost = h.lost;

@@ -42,7 +42,7 @@ put_record seq prefix key value = Value (record { 0 = seq }) prefix key value
 -- The writer stands for the account. Its file has the durable records and those that it kept, whole and in order. At
 -- most one record may lack bytes: that of a put which the disk refused, the last one. The maps are those after all
 -- records but this one. A crash keeps the durable ones. All together have at most `size` bytes.
-pub record StandsFor (s : Standing) (a : Account) (size : ℕ) : Type 0 where
+pub record StandsInOneChunk (s : Standing) (a : Account) (size : ℕ) : Type 0 where
   pub durable : List Record
   pub kept : List Record
   pub lost : List Record
@@ -79,7 +79,7 @@ pub record LosesPut (old new : Standing) (prefix : ℕ) (key value : List ℕ) :
   pub lost : new.lost ≡ true
 
 -- a call left maps, records and numbers
-pub record KeepsRecords (old new : Standing) : Type 0 where
+pub record LeavesRecords (old new : Standing) : Type 0 where
   pub maps : new.maps ≡ old.maps
   pub records : new.records ≡ old.records
   pub next : new.next ≡ old.next

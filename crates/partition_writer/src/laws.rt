@@ -7,7 +7,7 @@ ghost use Rattle.record_format.specs.declared.record.Record.{Record};
 ghost use Rattle.crash_law.specs.Accounts.{Account};
 ghost use Rattle.crash_law.specs.Crashes.{PartSurvives};
 ghost use Rattle.partition_writer.specs.OneChunk.{HasRecords, IsOneChunk, Recorded};
-ghost use Rattle.partition_writer.specs.Standing.{HoldsRecord, Standing, StandsFor};
+ghost use Rattle.partition_writer.specs.Standing.{HoldsRecord, Standing, StandsInOneChunk};
 
 /// Every crash of a partition whose records stand in one chunk of values leaves it so that it recovers.
 pub fn one_chunk_survives()
@@ -18,7 +18,7 @@ pub fn one_chunk_survives()
 
 /// Of the records since the last answered sync only that of a lost put, the last one, may lack bytes in the file.
 pub fn only_a_lost_record_lacks_bytes()
-    ensures { (s : Standing) (a : Account) (size : ℕ) → StandsFor s a size
+    ensures { (s : Standing) (a : Account) (size : ℕ) → StandsInOneChunk s a size
         → (kept : List Record) × (lost : List Record) × (s.records ≡ kept ++ lost)
         × (length lost ≡ (if s.lost then 1 else 0))
         × ((r : Record) → Contains kept r → HoldsRecord s r) }

@@ -70,7 +70,7 @@ impl<F: Folder> Writer<F> {
     ghost use Rattle.crash_law.specs.Crashes.{PartSurvives};
     ghost use Rattle.partition_writer.specs.Disk.{HaltsAtFault};
     ghost use Rattle.partition_writer.specs.Stored.{first_chunk, IsIdle, KeepsStored, StoresMore, StoresFront, IsAllDurable};
-    ghost use Rattle.partition_writer.specs.Standing.{disk_of, StandsFor, Writes, Puts, LosesPut, KeepsRecords, Syncs, HoldsTail};
+    ghost use Rattle.partition_writer.specs.Standing.{disk_of, StandsInOneChunk, Writes, Puts, LosesPut, LeavesRecords, Syncs, HoldsTail};
     ghost use Rattle.dir_files.specs.PortStates.{IsGivenBack};
     ghost use Rattle.partition_writer.specs.WriterViews.{chunk_of, standing};
 
@@ -84,7 +84,7 @@ impl<F: Folder> Writer<F> {
         ensures lost { (standing result).lost ≡ false }
         ensures port { (chunk_of result).port ≡ port }
         ensures no_file { is_none (chunk_of result).file ≡ true }
-        ensures account { F.tells ≡ true → StandsFor (standing result) (fresh_account empty) 0 }
+        ensures account { F.tells ≡ true → StandsInOneChunk (standing result) (fresh_account empty) 0 }
     {
         Writer {
             chunk: ChunkFile::new(port),
@@ -120,7 +120,7 @@ impl<F: Folder> Writer<F> {
         ensures ok { OnOk result
             (Puts (standing self.old) (standing self.new) prefix key.now value.now) }
         ensures memory { IsErrOf result WriteRefusal.Memory
-            → KeepsRecords (standing self.old) (standing self.new) }
+            → LeavesRecords (standing self.old) (standing self.new) }
         ensures fault { IsErrOf result WriteRefusal.DiskFault
             → LosesPut (standing self.old) (standing self.new) prefix key.now value.now }
         // A file is created only where there is none, and what appends nothing leaves nothing more to sync.
@@ -142,18 +142,18 @@ impl<F: Folder> Writer<F> {
 
         // What the writer stands for after each answer.
         ensures account { F.tells ≡ true → (a : Account) (size : ℕ)
-            → StandsFor (standing self.old) a size
-            → OnOk result (StandsFor (standing self.new) (answered a (Put prefix key.now value.now))
+            → StandsInOneChunk (standing self.old) a size
+            → OnOk result (StandsInOneChunk (standing self.new) (answered a (Put prefix key.now value.now))
             (size + record_length Values (length key.now) (length value.now))) }
         ensures lost { F.tells ≡ true → (a : Account) (size : ℕ)
-            → StandsFor (standing self.old) a size → IsErrOf result WriteRefusal.DiskFault
-            → StandsFor (standing self.new) (refused a (Put prefix key.now value.now))
+            → StandsInOneChunk (standing self.old) a size → IsErrOf result WriteRefusal.DiskFault
+            → StandsInOneChunk (standing self.new) (refused a (Put prefix key.now value.now))
             (size + record_length Values (length key.now) (length value.now)) }
         ensures same { F.tells ≡ true → (a : Account) (size : ℕ)
-            → StandsFor (standing self.old) a size → IsErrOf result WriteRefusal.Memory
-            → StandsFor (standing self.new) a size }
+            → StandsInOneChunk (standing self.old) a size → IsErrOf result WriteRefusal.Memory
+            → StandsInOneChunk (standing self.new) a size }
         ensures whole { F.tells ≡ true → (a : Account) (size : ℕ)
-            → StandsFor (standing self.old) a size → OnOk result (HoldsTail (standing self.new)) }
+            → StandsInOneChunk (standing self.old) a size → OnOk result (HoldsTail (standing self.new)) }
     {
         if let Some(at) = self.chunk.halted {
             return Err(WriteRefusal::Halted { at });
@@ -177,7 +177,7 @@ impl<F: Folder> Writer<F> {
         ensures ok { OnOk result (Writes rec (standing self.old) (standing self.new)
             × (self.new.lost ≡ self.old.lost)) }
         ensures memory { IsErrOf result WriteRefusal.Memory
-            → KeepsRecords (standing self.old) (standing self.new)
+            → LeavesRecords (standing self.old) (standing self.new)
             × (self.new.chunk.unsynced ≡ self.old.chunk.unsynced) }
         ensures fault { IsErrOf result WriteRefusal.DiskFault
             → Writes rec (standing self.old) (standing self.new) × (self.new.lost ≡ true) }
@@ -217,7 +217,7 @@ impl<F: Folder> Writer<F> {
     pub fn sync(&mut self) -> Result<Seq, WriteRefusal>
         ensures number { IfOk result (λ seq. seq.0 + 1 ≡ (standing self.old).next) }
         ensures ok { OnOk result (Syncs (standing self.old) (standing self.new)) }
-        ensures err { OnErr result (KeepsRecords (standing self.old) (standing self.new)) }
+        ensures err { OnErr result (LeavesRecords (standing self.old) (standing self.new)) }
         // It makes no call of the folder where nothing is to be made durable, and leaves nothing so.
         ensures idle { (standing self.old).halted ≡ None → IsIdle (standing self.old).chunk
             → IsOk result × (chunk_of self.new ≡ chunk_of self.old) }
@@ -233,12 +233,12 @@ impl<F: Folder> Writer<F> {
 
         // What the writer stands for after each answer; after an answered sync every record of its file is durable.
         ensures account { F.tells ≡ true → (a : Account) (size : ℕ)
-            → StandsFor (standing self.old) a size
-            → OnOk result (StandsFor (standing self.new) (synced a) size
+            → StandsInOneChunk (standing self.old) a size
+            → OnOk result (StandsInOneChunk (standing self.new) (synced a) size
             × IsAllDurable (standing self.new).chunk.handle) }
         ensures same { F.tells ≡ true → (a : Account) (size : ℕ)
-            → StandsFor (standing self.old) a size
-            → OnErr result (StandsFor (standing self.new) a size) }
+            → StandsInOneChunk (standing self.old) a size
+            → OnErr result (StandsInOneChunk (standing self.new) a size) }
     {
         if let Some(at) = self.chunk.halted {
             return Err(WriteRefusal::Halted { at });
@@ -250,17 +250,17 @@ impl<F: Folder> Writer<F> {
 
     /// Gives the file back, and hands out the port. It takes no memory.
     pub fn close(self) -> F
-        ensures given { F.tells ≡ true → (a : Account) (size : ℕ) → StandsFor (standing self) a size
+        ensures given { F.tells ≡ true → (a : Account) (size : ℕ) → StandsInOneChunk (standing self) a size
             → IsGivenBack (F.port result) }
-        ensures leaves { F.tells ≡ true → (a : Account) (size : ℕ) → StandsFor (standing self) a size
+        ensures leaves { F.tells ≡ true → (a : Account) (size : ℕ) → StandsInOneChunk (standing self) a size
             → size ≤ MAX_FILE_LEN
             → PartSurvives 0 (F.port result).held (F.port result).gone a }
         ensures no_file { is_none (chunk_of self).file ≡ true → result ≡ (chunk_of self).port }
         // Where no record may lack bytes, what is read without a crash restarts to the maps.
-        ensures exact { F.tells ≡ true → (a : Account) (size : ℕ) → StandsFor (standing self) a size
+        ensures exact { F.tells ≡ true → (a : Account) (size : ℕ) → StandsInOneChunk (standing self) a size
             → size ≤ MAX_FILE_LEN → (standing self).lost ≡ false
             → RestartsAs (read_of (F.port result)) 0 a.maps }
-        ensures others { F.tells ≡ true → (a : Account) (size : ℕ) → StandsFor (standing self) a size
+        ensures others { F.tells ≡ true → (a : Account) (size : ℕ) → StandsInOneChunk (standing self) a size
             → (name : ChunkName) → name ≢ first_chunk → (F.port result).held name ≡ None }
         ensures kept { (standing self).faults ≤ F.count result }
         ensures stays_sound { (standing self).sound ≡ true
