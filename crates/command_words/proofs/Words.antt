@@ -22,7 +22,7 @@ Differs s given = s ≢ given.setting
 abbrev Apart : Given → Given → Type 0
 Apart a b = a.setting ≢ b.setting
 
-abbrev IsInRange : Given → Type 0
+abbrev pub IsInRange : Given → Type 0
 IsInRange given = IsNumberFor given.setting given.number
 
 abbrev IsTaken : Verb → Given → Type 0
@@ -201,7 +201,7 @@ one_given : (a b : Given) → IsInRange a → IsInRange b → option_word a.sett
 one_given a b x y named spelled =
     let setting : a.setting ≡ b.setting = one_option a.setting b.setting named in
     let number : a.number ≡ b.number =
-        decimal_injective a.number b.number (number_fits a.setting a.number x) (number_fits b.setting b.number y) spelled in
+    decimal_injective a.number b.number (number_fits a.setting a.number x) (number_fits b.setting b.number y) spelled in
     let make : Setting → ℕ → Given = λ s n. record { setting = s; number = n } in
     let whole : make a.setting a.number ≡ make b.setting b.number = cc in
     whole
@@ -231,6 +231,6 @@ one_meaning words a b x y =
     let verb : x.verb ≡ y.verb = one_verb x.verb y.verb named in
     let options : x.options ≡ y.options = cc in
     let givens : x.givens ≡ y.givens =
-        one_givens x.givens y.givens x.read.ranges y.read.ranges (sym x.read.text ∙ (options ∙ y.read.text)) in
+    one_givens x.givens y.givens x.read.ranges y.read.ranges (sym x.read.text ∙ (options ∙ y.read.text)) in
     let same : command_of x.verb x.givens ≡ command_of y.verb y.givens = cc in
     x.meaning ∙ (same ∙ sym y.meaning)

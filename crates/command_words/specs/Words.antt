@@ -1,5 +1,5 @@
 -- What the words mean.
-use Rattle.std.specs.Prelude.{◌≡◌, ◌≢◌, ℕ, Bool, List, [], ◌∷◌, map, find, option_map, unwrap_or, All, Contains, decimal}
+use Rattle.std.specs.Prelude.{◌≡◌, ◌≢◌, ℕ, Bool, List, [], ◌∷◌, map, find, option_map, unwrap_or, All, Contains, decimal, slice_index}
 use Rattle.std.specs.Prelude.{String}
 use Rattle.std.specs.String.{string_bytes}
 use Rattle.std.specs.List.{AllPairs, flat_map}
@@ -82,3 +82,8 @@ with_number limits Percent n = record limits { percent = n }
 -- each limit of the command is in its range
 abbrev pub IsInLimits : Command → Type 0
 IsInLimits (command.Play limits) = IsLimits limits
+
+-- what each word behind the folder is like: it has no `=`, and a hyphen begins names of options alone
+pub record IsLaterWord (word : List ℕ) : Type 0 where
+  pub plain : All (λ byte. byte ≢ 61) word
+  pub hyphen : slice_index word 0 ≡ 45 → (setting : Setting) × (word ≡ option_word setting)

@@ -20,9 +20,10 @@ fn help_of(alloc: Global, verb: Verb) -> Result<String, AllocError> {
     let mut notes = Vec::new(alloc);
     for setting in row.settings {
         let option = setting.row();
-        notes.push(
-            format!(in alloc; "from {} to {}, by default {}", option.least, option.most, option.default)?,
-        )?;
+        notes.push(format!(in alloc;
+            "from {} to {}, by default {}",
+            option.least, option.most, option.default
+        )?)?;
     }
     let path = format!(in alloc; "hotrestart FOLDER {}", row.name)?;
     let mut command = clap::Command::new(alloc, row.name)
