@@ -22,7 +22,7 @@ module _ {A : Type 0} where
       let first : string_bytes a ≡ string_bytes v = ap string_bytes x in
       let second : string_bytes b ≡ string_bytes w = ap string_bytes y in
       let whole : take (length (v ∷ w ∷ ws) - 2) ws ≡ ws = grind (arith, common_steps) in
-      cc (ap (λ (xs : List (String A)). texts_of xs) whole)
+      cc
 
   pub one_first : (words : List (String A)) → length words ≢ 0 → length words < 2 → (t : List ℕ) × (texts_of words ≡ t ∷ [])
   one_first [] some few = absurd (some refl)

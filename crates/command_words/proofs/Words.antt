@@ -1,10 +1,10 @@
 -- Reading options one by one.
-use Rattle.std.proofs.Common.{◌≡◌, ◌≢◌, ◌<◌, ◌≤◌, ◌^◌, ◌==◌, if◌then◌else◌, ℕ, suc, List, [], ◌∷◌, ◌++◌, All, Contains, get_or, length, refl, sym, ap, ◌∙◌, subst, arith, decimal, lit≤, Bool, true, false, cond, find, Option, Some, option_map, unwrap_or}
+use Rattle.std.proofs.Common.{◌≡◌, ◌≢◌, ◌<◌, ◌^◌, ◌==◌, if◌then◌else◌, ℕ, suc, List, [], ◌∷◌, All, Contains, get_or, refl, sym, ap, ◌∙◌, subst, arith, decimal, lit≤, Bool, true, false, cond, find, Option, Some, option_map, unwrap_or}
 use Rattle.std.specs.List.{AllPairs, flat_map}
 use Rattle.std.proofs.lemmas.Fmt.{decimal_is_IsNumeral, decimal_injective}
 use Rattle.std.proofs.lemmas.Slice.Eq.{bytes_eq-Decides}
 use Rattle.std.proofs.lemmas.Str.Parse.{digit_at}
-use Rattle.std.proofs.lemmas.List.Elements.{All-nil, All-cons, All-head, All-tail, All-contains, Contains-append_right, Contains-get_or}
+use Rattle.std.proofs.lemmas.List.Elements.{All-nil, All-cons, All-head, All-tail, All-contains, Contains-append_right}
 use Rattle.std.proofs.lemmas.List.Kept.{AllPairs-cons}
 use Rattle.hr_base.specs.declared.limits.Limits.{Limits}
 use Rattle.hr_base.specs.LimitRanges.{IsLimits}

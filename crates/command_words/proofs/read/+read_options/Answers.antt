@@ -1,9 +1,9 @@
-use Rattle.std.proofs.Common.{◌≡◌, ◌-◌, ℕ, List, [], ◌∷◌, length, take, drop, sym, ◌∙◌, subst, arith, refl, Contains}
+use Rattle.std.proofs.Common.{◌-◌, ℕ, List, length, take, drop, sym, ◌∙◌, subst, arith, Contains}
 use Rattle.std.specs.String.{string_bytes}
 use Rattle.std.proofs.lemmas.Bool.{false≢true}
 use Rattle.command_words.specs.declared.table.Setting.{Setting}
 use Rattle.command_words.specs.Table.{IsNumberFor}
-use Rattle.command_words.specs.Words.{Given, IsOptions, HasLimits, texts_of, with_number}
+use Rattle.command_words.specs.Words.{IsOptions, HasLimits, texts_of, with_number}
 use Rattle.command_words.proofs.Words.{split, odd_word, joined, one_option}
 use Rattle.command_words.proofs.Texts.{one_first, two_first}
 use Rattle.command_words.proofs.read.+read_options.Goals as goal

@@ -1,4 +1,4 @@
-use Rattle.std.proofs.Common.{◌≡◌, ◌≢◌, ◌<◌, ℕ, List, get_or, length, sym, ◌∙◌, arith, refl, below_more}
+use Rattle.std.proofs.Common.{◌≢◌, ◌<◌, ℕ, get_or, length, sym, ◌∙◌, arith, refl, below_more}
 use Rattle.std.proofs.lemmas.Slice.Eq.{bytes_eq-Decides}
 use Rattle.std.proofs.lemmas.Bool.{false≢true}
 use Rattle.command_words.specs.Words.{texts_of}

@@ -1,4 +1,4 @@
-use Rattle.std.proofs.Common.{◌≡◌, ◌≢◌, ◌<◌, ℕ, List, get_or}
+use Rattle.std.proofs.Common.{◌≢◌, ◌<◌, ℕ, List, get_or}
 use Rattle.command_words.specs.Words.{texts_of}
 use Rattle.command_words.proofs.read.has_word.Given as goal
 

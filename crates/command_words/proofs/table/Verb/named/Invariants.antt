@@ -1,4 +1,4 @@
-use Rattle.std.proofs.Common.{◌≡◌, ◌≢◌, ◌<◌, ℕ, get_or}
+use Rattle.std.proofs.Common.{◌≢◌, ◌<◌, ℕ, get_or}
 use Rattle.command_words.specs.declared.table.Verb.{Verb}
 use Rattle.command_words.specs.Table.{verb_name}
 use Rattle.command_words.proofs.table.Verb.named.Given as goal

@@ -1,4 +1,4 @@
-use Rattle.std.proofs.Common.{◌≡◌, ◌≢◌, ◌<◌, ℕ, get_or}
+use Rattle.std.proofs.Common.{◌≢◌, ◌<◌, ℕ, get_or}
 use Rattle.command_words.specs.declared.table.Setting.{Setting}
 use Rattle.command_words.specs.Table.{option_word}
 use Rattle.command_words.proofs.table.Verb.setting_named.Given as goal
