@@ -2,3 +2,4 @@ pub mod Numbers
 pub mod Words
 pub mod Texts
 pub mod LaterWords
+pub mod ClapWalk

@@ -16,10 +16,10 @@ use Rattle.command_words.specs.declared.table.Setting.TheVariants.{Partitions, V
 use Rattle.command_words.specs.Table.{verb_name, settings_of, option_word, default_of, IsNumberFor}
 use Rattle.command_words.specs.Words.{Given, words_of, IsOptions, IsCommand, HasLimits, is_of, number_of, limits_of, command_of, with_number}
 
-abbrev Differs : Setting → Given → Type 0
+abbrev pub Differs : Setting → Given → Type 0
 Differs s given = s ≢ given.setting
 
-abbrev Apart : Given → Given → Type 0
+abbrev pub Apart : Given → Given → Type 0
 Apart a b = a.setting ≢ b.setting
 
 abbrev pub IsInRange : Given → Type 0
@@ -97,10 +97,10 @@ pub record Split (verb : Verb) (name value : List ℕ) (rest : List (List ℕ)) 
   pub absent : Contains rest name → ⊥
   pub read : IsOptions verb rest givens
 
-AllPairs-head : {X : Type 0} (R : X → X → Type 0) (x : X) (xs : List X) → AllPairs R (x ∷ xs) → All (R x) xs
+pub AllPairs-head : {X : Type 0} (R : X → X → Type 0) (x : X) (xs : List X) → AllPairs R (x ∷ xs) → All (R x) xs
 AllPairs-head R x xs h = λ k d below. h 0 (suc k) d (omega arith) (omega arith)
 
-AllPairs-tail : {X : Type 0} (R : X → X → Type 0) (x : X) (xs : List X) → AllPairs R (x ∷ xs) → AllPairs R xs
+pub AllPairs-tail : {X : Type 0} (R : X → X → Type 0) (x : X) (xs : List X) → AllPairs R (x ∷ xs) → AllPairs R xs
 AllPairs-tail R x xs h = λ i j d before below. h (suc i) (suc j) d (omega arith) (omega arith)
 
 pub split : (verb : Verb) (name value : List ℕ) (rest : List (List ℕ)) (givens : List Given)
