@@ -14,7 +14,8 @@ use Rattle.command_words.specs.declared.table.Setting.TheVariants.{Partitions, V
 use Rattle.command_words.specs.declared.read.Command.{Command}
 use Rattle.command_words.specs.declared.table.Verb.{Verb}
 use Rattle.command_words.specs.declared.table.Verb.TheVariants.{Play}
-use Rattle.command_words.specs.Table.{verb_name, option_word}
+use Rattle.command_words.specs.Table.{verb_name, option_name, option_word}
+use Rattle.command_words.specs.Program.{bare_app, program_app}
 use Rattle.command_words.specs.Words.{Given, IsCommand, words_of}
 use Rattle.command_words.proofs.Words.{Differs, Apart, IsInRange, number_fits, one_option, AllPairs-head, AllPairs-tail}
 use Rattle.std.specs.List.{AllPairs, flat_map, list_all}
@@ -24,31 +25,18 @@ use Rattle.std.proofs.lemmas.Slice.Eq.{bytes_eq-Decides}
 use Rattle.std.proofs.lemmas.Str.Parse.{digit_at}
 use Rattle.std.proofs.lemmas.List.Elements.{All-nil, All-cons, All-head, All-tail}
 
--- an option's name without the two hyphens
-abbrev id_of : Setting → Text
-id_of Partitions = codes "partitions"
-id_of ValueLimit = codes "value-limit"
-id_of TombLimit = codes "tomb-limit"
-id_of Percent = codes "percent"
-
-abbrev rule : Setting → Rule
-rule s = record (new_rule (id_of s)) { long = Some (id_of s) }
-
-abbrev play : App
-play = with_rule (with_rule (with_rule (with_rule (new_app (codes "play")) (rule Partitions)) (rule ValueLimit)) (rule TombLimit)) (rule Percent)
-
-abbrev top_shape : Shape
-top_shape = record (new_app (codes "FOLDER")).top { subcommand_required = true; disable_help_flag = true; disable_help_subcommand = true }
-
 abbrev program : App
-program = with_subcommand (record { top = top_shape; subs = [] }) play.top
+program = program_app
 
-is_free : is_simple_and_free program ≡ true
+abbrev id_of : Setting → Text
+id_of = option_name
+
+pub is_free : is_simple_and_free program ≡ true
 unfolding clap_on_literals
 is_free = refl
 
 abbrev first_of_shapes : List Shape → Shape
-first_of_shapes [] = top_shape
+first_of_shapes [] = bare_app.top
 first_of_shapes (s ∷ ss) = s
 
 abbrev sub : Shape
@@ -184,15 +172,16 @@ Unused rows g = has_row (id_of g.setting) rows ≡ false
 
 ids_differ : (a b : Setting) → a ≢ b → bytes_eq (id_of a) (id_of b) ≡ false
 ids_differ a b other = elim (bytes_eq (id_of a) (id_of b)) as (λ v. (v ≡ true → a ≡ b) → v ≡ false) [
-    | true ↦ λ h. absurd (other (h refl))
-    | false ↦ λ h. refl
-  ] (λ yes. one_option a b (words_from a b ((bytes_eq-Decides (id_of a) (id_of b)).0 yes)))
+  | true ↦ λ h. absurd (other (h refl))
+  | false ↦ λ h. refl
+] (λ yes. one_option a b (words_from a b ((bytes_eq-Decides (id_of a) (id_of b)).0 yes)))
   where
     word_is : (s : Setting) → option_word s ≡ 45 ∷ 45 ∷ id_of s
     word_is Partitions = refl
     word_is ValueLimit = refl
     word_is TombLimit = refl
     word_is Percent = refl
+
     words_from : (a b : Setting) → id_of a ≡ id_of b → option_word a ≡ option_word b
     words_from a b e = word_is a ∙ (ap (λ (xs : Text). 45 ∷ 45 ∷ xs) e ∙ sym (word_is b))
 
@@ -213,7 +202,7 @@ two_faults : (w w1 w2 : Walk) (a b : Text) (rest : List Text) → turn_fault sub
 unfolding walk_fault
 two_faults w w1 w2 a b rest no_a step_a no_b step_b =
     let second : walk_fault sub [] w1 (b ∷ rest) ≡ walk_fault sub [] w2 rest =
-        ap (λ (k : Kinds). or_else k (walk_fault sub [] (walked sub.rules [] w1 b) rest)) no_b ∙ ap (λ (x : Walk). walk_fault sub [] x rest) step_b in
+    ap (λ (k : Kinds). or_else k (walk_fault sub [] (walked sub.rules [] w1 b) rest)) no_b ∙ ap (λ (x : Walk). walk_fault sub [] x rest) step_b in
     ap (λ (k : Kinds). or_else k (walk_fault sub [] (walked sub.rules [] w a) (b ∷ rest))) no_a ∙ (ap (λ (x : Walk). walk_fault sub [] x (b ∷ rest)) step_a ∙ second)
 
 -- the faults of the words, and of what is pending at their end
@@ -271,6 +260,7 @@ defaults_none rows (a ∷ rs) e =
     both_true : (a b : Bool) → (a && b) ≡ true → (a ≡ true) × (b ≡ true)
     both_true true b e = (refl, e)
     both_true false b e = cc
+
     no_default : (a b : Bool) (k : Kinds) → b ≡ true → (if a || b then [] else k) ≡ []
     no_default true b k e = refl
     no_default false true k e = refl
@@ -281,7 +271,7 @@ unfolding clap_on_literals
 level_passes options h =
     let end : Held = (walk sub.rules [] nothing_held options).held in
     let first = ap (λ (k : Kinds). or_else k (or_else (settle_fault sub.rules false end)
-        (or_else (defaults_fault (settled sub.rules end).rows sub.rules) (check_fault sub (finished sub.rules end) false)))) h.words_pass in
+    (or_else (defaults_fault (settled sub.rules end).rows sub.rules) (check_fault sub (finished sub.rules end) false)))) h.words_pass in
     let second = ap (λ (k : Kinds). or_else k (or_else (defaults_fault (settled sub.rules end).rows sub.rules) (check_fault sub (finished sub.rules end) false))) h.end_passes in
     let third = ap (λ (k : Kinds). or_else k (check_fault sub (finished sub.rules end) false)) (defaults_none (settled sub.rules end).rows sub.rules refl) in
     first ∙ (second ∙ third)
@@ -342,15 +332,15 @@ after_verb : (verb : Verb) (options : List Text) → level_fault sub [] nothing_
 unfolding clap_on_literals
 after_verb Play options e = ap (λ (k : Kinds). or_else k []) e
 
-pub clap_takes : (words : List (List ℕ)) (command : Command) → IsCommand words command → fault_of program words ≡ []
+pub clap_takes : (words : List (List ℕ)) (command : Command) → IsCommand words command → fault_of program_app words ≡ []
 clap_takes words command h =
     let options : Passes (at [] None idle) h.options =
-        let P : List Text → Type 0 = λ ws. Passes (at [] None idle) ws in
-        subst P (sym h.read.text) (options_pass h.givens [] None h.read.ranges h.read.once refl (none_used h.givens)) in
+    let P : List Text → Type 0 = λ ws. Passes (at [] None idle) ws in
+    subst P (sym h.read.text) (options_pass h.givens [] None h.read.ranges h.read.once refl (none_used h.givens)) in
     let level = level_passes h.options options in
     let words_pass = verb_faults h.verb h.options in
     let Q : List Text → Type 0 = λ ws. fault_of program ws ≡ [] in
     let whole : fault_of program (h.folder ∷ verb_name h.verb ∷ h.options) ≡ [] =
-        ap (λ (k : Kinds). or_else k (after_walk (walk top.rules names nothing_held (verb_name h.verb ∷ h.options)))) words_pass
-        ∙ (ap after_walk (verb_walk h.verb h.options) ∙ after_verb h.verb h.options level) in
+    ap (λ (k : Kinds). or_else k (after_walk (walk top.rules names nothing_held (verb_name h.verb ∷ h.options)))) words_pass
+    ∙ (ap after_walk (verb_walk h.verb h.options) ∙ after_verb h.verb h.options level) in
     subst Q (sym h.text) whole

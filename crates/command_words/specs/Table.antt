@@ -1,5 +1,5 @@
 -- The commands and the options that the words may have.
-use Rattle.std.specs.Prelude.{◌≤◌, ℕ, List, [], ◌∷◌, codes}
+use Rattle.std.specs.Prelude.{◌≤◌, ℕ, List, [], ◌∷◌, ◌++◌, codes}
 use Rattle.hr_base.specs.declared.limits.TheConstants.{MAX_PARTITIONS, MIN_CHUNK_LIMIT, MAX_CHUNK_LIMIT, MAX_PERCENT}
 use Rattle.command_words.specs.declared.table.TheConstants.{DEFAULT_PARTITIONS, DEFAULT_VALUE_LIMIT, DEFAULT_TOMB_LIMIT, DEFAULT_PERCENT}
 use Rattle.command_words.specs.declared.table.Verb.{Verb}
@@ -15,12 +15,16 @@ verb_name Play = codes "play"
 abbrev pub settings_of : Verb → List Setting
 settings_of Play = Partitions ∷ ValueLimit ∷ TombLimit ∷ Percent ∷ []
 
+-- the name of an option
+abbrev pub option_name : Setting → List ℕ
+option_name Partitions = codes "partitions"
+option_name ValueLimit = codes "value-limit"
+option_name TombLimit = codes "tomb-limit"
+option_name Percent = codes "percent"
+
 -- the word that names an option
 abbrev pub option_word : Setting → List ℕ
-option_word Partitions = codes "--partitions"
-option_word ValueLimit = codes "--value-limit"
-option_word TombLimit = codes "--tomb-limit"
-option_word Percent = codes "--percent"
+option_word setting = codes "--" ++ option_name setting
 
 -- the least number that an option may be given
 abbrev pub least_of : Setting → ℕ

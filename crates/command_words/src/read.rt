@@ -1,14 +1,17 @@
 //! Reading the words.
 
-ghost use Rattle.std.specs.Prelude.{◌≡◌, ◌↔◌, List, IsTrue, IfSome, IfNone, Contains};
+ghost use Rattle.std.specs.Prelude.{◌≡◌, ◌↔◌, List, IsTrue, IfSome, IfNone, IfOk, IsErrOf, Contains};
 ghost use Rattle.command_words.specs.declared.read.Command.{Command};
+ghost use Rattle.command_words.specs.declared.parse.WordsRefusal.{WordsRefusal};
 ghost use Rattle.command_words.specs.Words.{Given, IsCommand, IsOptions, HasLimits, texts_of, with_number, IsInLimits};
 ghost use Rattle.command_words.specs.Table.{IsNumberFor};
 
+use crate::parse::{WordsRefusal, check_names};
 use crate::table::{
     DEFAULT_PARTITIONS, DEFAULT_PERCENT, DEFAULT_TOMB_LIMIT, DEFAULT_VALUE_LIMIT, Setting, Verb,
 };
 use hr_base::Limits;
+use std::alloc::Global;
 
 /// What the words ask for.
 #[derive(Clone, Copy, Debug, PartialEq, Eq)]
@@ -25,9 +28,20 @@ const DEFAULT_LIMITS: Limits = Limits {
     percent: DEFAULT_PERCENT,
 };
 
-/// The command that the words after the program's name mean, if they mean one. Of the folder, which comes first,
-/// nothing is made.
-pub fn read_words(words: &[String]) -> Option<Command>
+/// Reads the words after the program's name. Of the folder, which comes first, nothing is made. `clap` refuses what
+/// it can tell by the names; the reading behind it tells all by itself, and refuses also `=`, `--` and wrong numbers.
+pub fn read_words(alloc: Global, words: &[String]) -> Result<Command, WordsRefusal>
+    ensures found { IfOk result (IsCommand (texts_of words.now)) }
+    ensures refused { IsErrOf result WordsRefusal.Words →
+        (command : Command) → IsCommand (texts_of words.now) command → ⊥ }
+    ensures ranges { IfOk result IsInLimits }
+{
+    check_names(alloc, words)?;
+    read_command(words).ok_or(WordsRefusal::Words)
+}
+
+// The command that words mean, if they mean one.
+fn read_command(words: &[String]) -> Option<Command>
     ensures found { IfSome result (IsCommand (texts_of words.now)) }
     ensures none { IfNone result ((command : Command) → IsCommand (texts_of words.now) command → ⊥) }
     ensures ranges { IfSome result IsInLimits }

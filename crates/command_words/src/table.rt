@@ -1,9 +1,9 @@
 //! The table of commands and options. What is added here is read, and stands in the usage text.
 
-ghost use Rattle.std.specs.Prelude.{◌≡◌, ◌++◌, IfSome, IfNone, Contains, codes};
+ghost use Rattle.std.specs.Prelude.{◌≡◌, IfSome, IfNone, Contains};
 ghost use Rattle.command_words.specs.declared.table.Setting.{Setting};
 ghost use Rattle.command_words.specs.declared.table.Verb.{Verb};
-ghost use Rattle.command_words.specs.Table.{verb_name, settings_of, option_word, least_of, most_of, default_of};
+ghost use Rattle.command_words.specs.Table.{verb_name, settings_of, option_name, option_word, least_of, most_of, default_of};
 
 use hr_base::{MAX_CHUNK_LIMIT, MAX_PARTITIONS, MAX_PERCENT, MIN_CHUNK_LIMIT};
 
@@ -107,7 +107,7 @@ impl Verb {
 impl Setting {
     /// The option's row of the table.
     pub(crate) fn row(self) -> SettingRow
-        ensures name { option_word self ≡ codes "--" ++ result.name.now }
+        ensures name { result.name.now ≡ option_name self }
         ensures least { result.least ≡ least_of self }
         ensures most { result.most ≡ most_of self }
         ensures default { result.default ≡ default_of self }

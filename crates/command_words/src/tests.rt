@@ -1,24 +1,23 @@
 //! Words by example, parted by single spaces.
 
-use crate::table::Verb;
-use crate::{Command, read_words, usage};
-use clap::Arg;
-use hr_base::Limits;
-use std::alloc::{AllocError, Global};
+use crate::{Command, WordsRefusal, read_words, usage};
+use hr_base::{Limits, Memory};
+use std::alloc::Global;
 use std::test::Fail;
 
 const NO_WORDS: [String; 0] = [];
 
 // The limits that words set, if they mean a command.
-fn read(alloc: Global, text: &str) -> Result<Option<Limits>, AllocError> {
+fn read(alloc: Global, text: &str) -> Result<Option<Limits>, Memory> {
     let mut words = Vec::new(alloc);
     for word in text.split(' ') {
         words.push(String::from_str(alloc, word)?)?;
     }
-    Ok(match read_words(words.as_slice()) {
-        Some(Command::Play(limits)) => Some(limits),
-        None => None,
-    })
+    match read_words(alloc, words.as_slice()) {
+        Ok(Command::Play(limits)) => Ok(Some(limits)),
+        Err(WordsRefusal::Words) => Ok(None),
+        Err(WordsRefusal::Memory) => Err(Memory),
+    }
 }
 
 fn limits(partitions: u8, value: u64, tomb: u64, percent: u8) -> Limits {
@@ -28,25 +27,6 @@ fn limits(partitions: u8, value: u64, tomb: u64, percent: u8) -> Limits {
         tomb,
         percent,
     }
-}
-
-// Whether `clap` takes the words as a command of the table, of which it knows the names alone.
-fn clap_takes(alloc: Global, text: &str) -> Result<bool, AllocError> {
-    let mut program = clap::Command::new(alloc, "FOLDER")
-        .subcommand_required(true)
-        .disable_help_flag(true)
-        .disable_help_subcommand(true);
-    for verb in &Verb::ALL {
-        let row = verb.row();
-        let mut command = clap::Command::new(alloc, row.name);
-        for setting in row.settings {
-            let name = setting.row().name;
-            command = command.arg(Arg::new(alloc, name).long(name))?;
-        }
-        program = program.subcommand(command)?;
-    }
-    let words: Vec<&str> = text.split(' ').collect(alloc)?;
-    Ok(program.try_get_matches_from(words.as_slice()).is_ok())
 }
 
 #[test]
@@ -127,76 +107,56 @@ fn reads_words(rt: HostRuntime) -> Result<(), Fail> {
     ];
     for (name, words, limits) in rows {
         assert_eq!(rt; read(rt.alloc(), words)?, Some(limits), "{name}");
-        assert!(rt; clap_takes(rt.alloc(), words)?, "{name}, by clap");
     }
     Ok(())
 }
 
-// `clap` takes those words alone that are refused for their values' spelling or range, for `=` or for `--`.
 #[test]
 fn refuses_words(rt: HostRuntime) -> Result<(), Fail> {
     let rows = [
-        ("folder alone", "DIR", false),
-        ("unknown command", "DIR frob", false),
-        ("command in capitals", "DIR Play", false),
-        ("empty command", "DIR ", false),
-        ("command with an accent", "DIR pläy", false),
-        (
-            "option before the command",
-            "DIR --partitions 2 play",
-            false,
-        ),
-        ("stray word", "DIR play x", false),
-        ("stray empty word", "DIR play ", false),
-        (
-            "stray word after an option",
-            "DIR play --percent 1 x",
-            false,
-        ),
-        ("two hyphens", "DIR play --", true),
-        ("one hyphen", "DIR play -", false),
-        ("short option", "DIR play -p 2", false),
-        ("help", "DIR play --help", false),
-        ("help as a command", "DIR help", false),
-        ("start of an option", "DIR play --part 2", false),
-        ("option of no command", "DIR play --settle", false),
-        ("missing value", "DIR play --partitions", false),
-        (
-            "option as a value",
-            "DIR play --partitions --percent 1",
-            false,
-        ),
-        ("attached value", "DIR play --partitions=2", true),
-        (
-            "repeated option",
-            "DIR play --partitions 2 --partitions 2",
-            false,
-        ),
-        ("no partitions", "DIR play --partitions 0", true),
-        ("too many partitions", "DIR play --partitions 65", true),
-        ("leading zero", "DIR play --partitions 08", true),
-        ("plus sign", "DIR play --partitions +8", true),
-        ("empty value", "DIR play --partitions ", true),
-        ("value with an accent", "DIR play --partitions é", true),
-        ("value limit too small", "DIR play --value-limit 4095", true),
-        (
-            "value limit too large",
-            "DIR play --value-limit 67108865",
-            true,
-        ),
-        ("percent too large", "DIR play --percent 101", true),
-        ("negative percent", "DIR play --percent -1", false),
+        ("folder alone", "DIR"),
+        ("unknown command", "DIR frob"),
+        ("command in capitals", "DIR Play"),
+        ("empty command", "DIR "),
+        ("command with an accent", "DIR pläy"),
+        ("option before the command", "DIR --partitions 2 play"),
+        ("stray word", "DIR play x"),
+        ("stray empty word", "DIR play "),
+        ("stray word after an option", "DIR play --percent 1 x"),
+        ("two hyphens", "DIR play --"),
+        ("one hyphen", "DIR play -"),
+        ("short option", "DIR play -p 2"),
+        ("help", "DIR play --help"),
+        ("help as a command", "DIR help"),
+        ("start of an option", "DIR play --part 2"),
+        ("option of no command", "DIR play --settle"),
+        ("missing value", "DIR play --partitions"),
+        ("option as a value", "DIR play --partitions --percent 1"),
+        ("attached value", "DIR play --partitions=2"),
+        ("repeated option", "DIR play --partitions 2 --partitions 2"),
+        ("no partitions", "DIR play --partitions 0"),
+        ("too many partitions", "DIR play --partitions 65"),
+        ("leading zero", "DIR play --partitions 08"),
+        ("plus sign", "DIR play --partitions +8"),
+        ("empty value", "DIR play --partitions "),
+        ("value with an accent", "DIR play --partitions é"),
+        ("value limit too small", "DIR play --value-limit 4095"),
+        ("value limit too large", "DIR play --value-limit 67108865"),
+        ("percent too large", "DIR play --percent 101"),
+        ("negative percent", "DIR play --percent -1"),
         (
             "value past 64 bits",
             "DIR play --value-limit 18446744073709551616",
-            true,
         ),
     ];
-    for (name, words, by_clap) in rows {
+    for (name, words) in rows {
         assert_eq!(rt; read(rt.alloc(), words)?, None, "{name}");
-        assert_eq!(rt; clap_takes(rt.alloc(), words)?, by_clap, "{name}, by clap");
     }
-    assert_eq!(rt; read_words(NO_WORDS.as_slice()), None, "no words");
+    assert_eq!(rt;
+        read_words(rt.alloc(), NO_WORDS.as_slice()),
+        Err(WordsRefusal::Words),
+        "no words"
+    );
     Ok(())
 }
 

@@ -1,7 +1,7 @@
 //! The usage text.
 
+use crate::parse::option;
 use crate::table::Verb;
-use clap::Arg;
 use hr_base::Memory;
 use std::alloc::{AllocError, Global};
 
@@ -30,13 +30,10 @@ fn help_of(alloc: Global, verb: Verb) -> Result<String, AllocError> {
         .bin_name(path.as_str())?
         .disable_help_flag(true);
     for (setting, note) in row.settings.iter().zip(&notes) {
-        let name = setting.row().name;
-        command = command.arg(
-            Arg::new(alloc, name)
-                .long(name)
-                .value_name("NUMBER")
-                .help(note.as_str()),
-        )?;
+        let arg = option(alloc, *setting)
+            .value_name("NUMBER")
+            .help(note.as_str());
+        command = command.arg(arg)?;
     }
     command.render_help()
 }
