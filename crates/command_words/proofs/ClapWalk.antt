@@ -1,12 +1,12 @@
 -- What `clap` makes of the words of options.
-use Rattle.std.proofs.Common.{◌≡◌, ◌≢◌, ◌==◌, ◌<◌, ◌^◌, ℕ, All, length, get_or, fold, subst, arith, decimal, Bool, true, false, List, [], ◌∷◌, ◌++◌, ◌||◌, ◌∙◌, map, Option, Some, None, refl, sym, ap, codes, cond, append-nil, append_assoc, ◌&&◌, is_some, if◌then◌else◌}
+use Rattle.std.proofs.Common.{◌≡◌, ◌≢◌, ◌==◌, ◌<◌, ◌^◌, ℕ, All, length, get_or, fold, subst, arith, decimal, Bool, true, false, List, [], ◌∷◌, ◌++◌, ◌||◌, ◌∙◌, Option, Some, None, refl, sym, ap, append-nil, append_assoc, ◌&&◌, is_some, if◌then◌else◌}
 use Rattle.clap.specs.Walk.{Row, Rule, Text, Names, Walk, walk, walk_from, nothing_held, settled, finished, with_default, is_empty, Held, Waiting, idle, option, walked, settled_rows, has_row, at_row, without, with_values, more_values}
 use Rattle.clap.specs.Kinds.{Kinds, or_else}
 use Rattle.clap.specs.Values.{reading_of}
 use Rattle.clap.specs.declared.builder.value_parser.ValueParser.TheVariants as vp
 use Rattle.clap.specs.declared.parser.matches.ValueSource.TheVariants.{CommandLine}
 use Rattle.std.specs.Str.{bytes_eq}
-use Rattle.clap.specs.Simple.{App, Shape, names_of, entered, new_app, new_rule, with_rule, with_subcommand, built}
+use Rattle.clap.specs.Simple.{App, Shape, names_of, entered, built}
 use Rattle.clap.specs.Faults.{turn_fault, settle_fault, walk_fault, defaults_fault, default_fault, given_default_fault, check_fault, level_fault, entered_fault, fault_of, is_simple_and_free}
 use Rattle.clap.proofs.OnLiterals.{clap_on_literals}
 use Rattle.command_words.specs.declared.table.Setting.{Setting}

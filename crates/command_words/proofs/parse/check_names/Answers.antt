@@ -1,4 +1,4 @@
-use Rattle.std.proofs.Common.{◌≡◌, ◌∙◌, List, ap, sym, subst, inl, inr}
+use Rattle.std.proofs.Common.{◌∙◌, ap, sym, subst, inl, inr}
 use Rattle.clap.specs.Words.{App, HasKind, Kinds, fault_of, is_simple_and_free}
 use Rattle.command_words.specs.Words.{texts_of}
 use Rattle.command_words.proofs.ClapWalk.{clap_takes, is_free}

@@ -1,8 +1,7 @@
-use Rattle.std.proofs.Common.{◌≡◌, ◌<◌, ◌∙◌, List, [], ◌∷◌, fold, take, length, get_or, sym, ap, ap₂, arith}
+use Rattle.std.proofs.Common.{◌<◌, ◌∙◌, fold, take, length, get_or, sym, ap, ap₂}
 use Rattle.std.proofs.lemmas.List.{take_more}
 use Rattle.std.proofs.lemmas.List.Sums.{fold_push}
 use Rattle.clap.specs.Words.{App, with_subcommand}
-use Rattle.command_words.specs.declared.table.Verb.{Verb}
 use Rattle.command_words.specs.declared.table.Verb.TheVariants.{Play}
 use Rattle.command_words.specs.Program.{bare_app, verbs, with_verb}
 use Rattle.command_words.proofs.parse.program.Goals as goal

@@ -1,10 +1,9 @@
-use Rattle.std.proofs.Common.{◌≡◌, ◌<◌, ◌||◌, ◌∙◌, Bool, fold, take, length, get_or, sym, ap, ap₂, arith}
+use Rattle.std.proofs.Common.{◌<◌, ◌||◌, ◌∙◌, Bool, fold, take, length, get_or, sym, ap, ap₂, arith}
 use Rattle.std.proofs.lemmas.List.{take_more}
 use Rattle.std.proofs.lemmas.List.Sums.{fold_push}
-use Rattle.clap.specs.Words.{App, app_of, new_app, with_rule}
-use Rattle.command_words.specs.declared.table.Setting.{Setting}
+use Rattle.clap.specs.Words.{App, new_app, with_rule}
 use Rattle.command_words.specs.declared.table.Setting.TheVariants.{Partitions}
-use Rattle.command_words.specs.Program.{option_rule, with_option}
+use Rattle.command_words.specs.Program.{with_option}
 use Rattle.command_words.specs.Table.{verb_name}
 use Rattle.command_words.proofs.parse.subcommand.Goals as goal
 
