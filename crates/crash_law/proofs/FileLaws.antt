@@ -15,13 +15,13 @@ use Rattle.dir_files.specs.Images.{Image, MayLeave, KeepsFront}
 use Rattle.record_format.specs.declared.record.Record.{Record}
 use Rattle.record_format.specs.Spelling.{seq_of, spellings}
 use Rattle.record_format.specs.Splits.{Splits, IsOfClass, IsTorn}
-use Rattle.record_format.specs.Laws.{one_split}
+use Rattle.record_format.proofs.SplitLaws.{one_split}
 use Rattle.crash_law.specs.Commands.{maps_after_all}
 use Rattle.crash_law.specs.Numbered.{IsIn, commands_of}
 use Rattle.crash_law.specs.Restarts.{Fact, IsSoundPart, IsRestartOf, RestartsAs}
 use Rattle.crash_law.specs.Chunks.{LeavesFront}
 use Rattle.crash_law.specs.Crashes.{IsImageOfPart, Kept, Recovers}
-use Rattle.crash_law.specs.Placed.{Placed, records_of, in_chunk, IsPlaced, Base, IsOwn, HoldsAt, Holds, IsWhole, HasWholeAt, HoldsWhole, InOrder}
+use Rattle.crash_law.specs.Placed.{Placed, records_of, in_chunk, IsPlaced, Base, IsOwn, HoldsAt, Holds, IsExactly, HasWholeAt, HoldsWhole, InOrder}
 use Rattle.crash_law.proofs.NumberedLaws.{Contains-from_in, in_from_Contains, rising_above, rising_one}
 use Rattle.crash_law.proofs.RestartLaws.{IsRestartOf-same, Fits-nothing_else}
 use Rattle.crash_law.proofs.KeptLaws.{kept_maps, kept_restart, kept_fits}
@@ -402,7 +402,7 @@ leaves_itself : (left : Option (List ℕ)) → MayLeave (option_map durable_file
 leaves_itself None = tt
 leaves_itself (Some bytes) = record { rest = []; prefix = sym (append-nil bytes); front = omega arith }
 
-owned_whole : (file : Option FileState) (rs : List Record) → IsWhole file rs → IsOwn (option_map durable_file (option_map (λ f. f.bytes) file)) rs []
+owned_whole : (file : Option FileState) (rs : List Record) → IsExactly file rs → IsOwn (option_map durable_file (option_map (λ f. f.bytes) file)) rs []
 owned_whole None rs h = h
 owned_whole (Some f) rs h = (
   h.0,

@@ -8,7 +8,7 @@ ghost use Rattle.dir_files.specs.Images.{Image, IsImage, KeepsFront, files_of};
 ghost use Rattle.record_format.specs.declared.record.Record.{Record};
 ghost use Rattle.record_format.specs.Splits.{IsOfClass};
 ghost use Rattle.crash_law.specs.Accounts.{Fits};
-ghost use Rattle.crash_law.specs.Chunks.{IsChunk, LeavesFront};
+ghost use Rattle.crash_law.specs.Chunks.{HoldsRecords, LeavesFront};
 ghost use Rattle.crash_law.specs.Crashes.{Kept};
 ghost use Rattle.crash_law.specs.Numbered.{commands_of};
 ghost use Rattle.crash_law.specs.Restarts.{Fact, IsRestartOf, IsRestartable, IsSoundPart};
@@ -32,7 +32,7 @@ pub fn what_is_kept_fits()
 /// A crash leaves of a chunk file its durable records, a front of the others, and a torn rest.
 pub fn a_chunk_leaves_a_front()
     ensures { (class : Class) (file : FileState) (durable tail : List Record) (missing bytes : List ℕ)
-        → All (IsOfClass class) (durable ++ tail) → IsChunk file durable tail missing
+        → All (IsOfClass class) (durable ++ tail) → HoldsRecords file durable tail missing
         → KeepsFront file bytes → LeavesFront class durable tail bytes }
 {}
 

@@ -4,14 +4,17 @@ use Rattle.hr_base.specs.Counts.{Rose}
 use Rattle.dir_files.specs.declared.folder.FolderRefusal.{FolderRefusal}
 use Rattle.dir_files.specs.declared.folder.FolderRefusal.TheVariants.{Memory, Fault}
 
--- whether the disk refused the call
+-- the disk failed, and memory was not what was missing
+abbrev pub is_disk : FolderRefusal → Bool
+is_disk Memory = false
+is_disk Fault = true
+
+-- the disk refused the call
 abbrev pub is_fault : {T : Type 0} → Result T FolderRefusal → Bool
 is_fault (Ok value) = false
-is_fault (Err Memory) = false
-is_fault (Err Fault) = true
+is_fault (Err refusal) = is_disk refusal
 
--- A call told the truth of a count of faults: it rose where the disk refused the call, stayed where it did not, and
--- did not fall.
+-- what a call made of a count of faults: it rose where the disk refused the call, and stays otherwise
 pub record CountsFault (refused : Bool) (old new : ℕ) : Type 0 where
   pub rose : refused ≡ true → Rose old new
   pub stays : refused ≡ false → new ≡ old

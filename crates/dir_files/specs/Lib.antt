@@ -6,3 +6,4 @@ pub mod Faults
 pub mod Plans
 pub mod Memory
 pub mod Links
+pub mod PortCalls

@@ -36,6 +36,12 @@ pub record ForksPlan (old new fork : Faults) : Type 0 where
   pub plan : new.plan ≡ old.plan
   pub calls : new.calls ≡ old.calls
 
+-- nothing of a port's plans changes
+pub record KeepsPlan (old new : Faults) : Type 0 where
+  pub plan : new.plan ≡ old.plan
+  pub forks : new.forks ≡ old.forks
+  pub calls : new.calls ≡ old.calls
+
 -- there is no plan
 abbrev pub is_unplanned : Option FaultPlan → List FaultPlan → Bool
 is_unplanned None [] = true

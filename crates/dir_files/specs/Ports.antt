@@ -109,6 +109,10 @@ pub record MayCreate (old new : Port) (name : ChunkName) : Type 0 where
   pub created : SameAt old.created new.created
   pub fixed : SameAt old.fixed new.fixed
 
+-- the name is fixed, or a directory sync will fix it
+abbrev pub can_be_fixed : Port → ChunkName → Bool
+can_be_fixed port name = port.fixed name || (port.created name && port.lent name)
+
 -- every held file has a lasting name, what was removed is gone for good, and what was created and is still out is fixed
 pub record SyncsNames (old new : Port) : Type 0 where
   pub held : (name : ChunkName) → new.held name ≡ option_map named_file (old.held name)
@@ -116,7 +120,7 @@ pub record SyncsNames (old new : Port) : Type 0 where
   pub lent : SameAt old.lent new.lent
   pub foreign : SameAt old.foreign new.foreign
   pub created : (name : ChunkName) → new.created name ≡ false
-  pub fixed : (name : ChunkName) → new.fixed name ≡ (old.fixed name || (old.created name && old.lent name))
+  pub fixed : (name : ChunkName) → new.fixed name ≡ can_be_fixed old name
 
 -- a handle came back: its file lies here, no removed file of its name can come back, and its name is no longer lent, or
 -- is foreign where it never was

@@ -2,7 +2,7 @@
 
 ghost use Rattle.std.specs.Prelude.{◌≡◌, ◌≤◌, ◌+◌, ◌-◌, ◌^◌, [], true, min, drop, slice_get};
 ghost use Rattle.dir_files.specs.Faults.{CountsFault};
-ghost use Rattle.dir_files.specs.Plans.{FollowsPlan, ForksPlan, IsPlanned, is_sound};
+ghost use Rattle.dir_files.specs.Plans.{FollowsPlan, ForksPlan, IsPlanned, KeepsPlan, is_sound};
 
 use std::alloc::Global;
 
@@ -69,9 +69,7 @@ impl Faults {
 
     /// Adds the faults of another port.
     pub fn adopt(&mut self, other: Faults)
-        ensures plan { self.new.plan ≡ self.old.plan }
-        ensures forks { self.new.forks ≡ self.old.forks }
-        ensures calls { self.new.calls ≡ self.old.calls }
+        ensures planned { KeepsPlan self.old self.new }
         ensures added { self.new.count ≡ min (self.old.count + other.count) (2 ^ 64 - 1) }
         ensures kept { self.old.count ≤ self.new.count }
         ensures sound { is_sound self.old ≡ true → is_sound other ≡ true → is_sound self.new ≡ true }

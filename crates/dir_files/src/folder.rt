@@ -27,7 +27,7 @@ impl From<AllocError> for FolderRefusal {
 }
 
 /// A port of a folder of chunk files. What each call makes of files, names and the count of faults stands in its
-/// clauses; `docs/DEFINITIONS.md` has the words in plain language. Clauses on files hold where the folder tells its content.
+/// clauses, and the words of these in `specs/`. Clauses on files hold where the folder tells its content.
 pub trait Folder: Sized {
     ghost use Rattle.std.specs.Prelude.{◌≡◌, ◌↔◌, ◌≤◌, ◌+◌, ◌-◌, ◌^◌, ℕ, Bool, true, false, List, Option, Some, None, IsTrue, IsErrOf, IfOk, OnOk, OnErr, MatchBool, All, length, min, take};
     ghost use Rattle.hr_base.specs.declared.name.ChunkName.{ChunkName};

@@ -65,7 +65,8 @@ impl MemFile {
 
     /// Adds the first half of these bytes, or none of them where there is no memory.
     pub(crate) fn append_half(&mut self, piece: &[u8])
-        ensures appended { (self.new.content ≡ with_bytes self.old.content (take (length piece.now / 2) piece.now)) ⊎ (self.new.content ≡ self.old.content) }
+        ensures appended { (self.new.content ≡ with_bytes self.old.content (take (length piece.now / 2) piece.now))
+            ⊎ (self.new.content ≡ self.old.content) }
         ensures name { self.new.name ≡ self.old.name }
     {
         let half = &piece[..piece.len() / 2];

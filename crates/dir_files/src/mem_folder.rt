@@ -1,13 +1,12 @@
 //! A folder that lies in memory, and whose calls fail as planned.
 
-ghost use Rattle.std.specs.Prelude.{◌≡◌, ◌⊎◌, ◌/◌, Some, None, [], true, All, length, take, MatchOption, IfOk, IsErrOf, OnOk, OnErr};
+ghost use Rattle.std.specs.Prelude.{◌≡◌, ◌⊎◌, ◌≤◌, ◌+◌, ◌-◌, ◌/◌, ◌^◌, Some, None, [], true, All, length, min, take, MatchOption, IfOk, IsErrOf, OnOk, OnErr};
 ghost use Rattle.hr_base.specs.Names.{IsChunkName};
-ghost use Rattle.dir_files.specs.Files.{FileState};
-ghost use Rattle.dir_files.specs.Files.{new_file, with_bytes, synced_file};
-ghost use Rattle.dir_files.specs.Ports.{IsEmptyPort, IsPort, SamePort, IsListing, IsFreeName, Creates, SyncsNames};
+ghost use Rattle.dir_files.specs.Files.{FileState, new_file, with_bytes, synced_file};
+ghost use Rattle.dir_files.specs.Ports.{IsEmptyPort, IsPort, CanJoin, Joins, IsListing, IsFreeName, Creates, SyncsNames, Gives};
 ghost use Rattle.dir_files.specs.Faults.{is_fault, CountsFault, StaysSound};
 ghost use Rattle.dir_files.specs.Memory.{port_of};
-ghost use Rattle.dir_files.specs.Plans.{is_sound, FollowsPlan, ForksPlan, IsPlanned};
+ghost use Rattle.dir_files.specs.Plans.{is_sound, FollowsPlan, ForksPlan, IsPlanned, KeepsPlan};
 
 use crate::chain::{Chain, Entry, Slot};
 use crate::content::Content;
@@ -17,7 +16,8 @@ use crate::mem_file::MemFile;
 use hr_base::{ChunkName, Memory};
 use std::alloc::Global;
 
-/// A port of a folder in memory. Its calls fail as its plan says, and it tells everything.
+/// A port of a folder in memory. Its calls fail as its plan says, and it tells everything. A failed `create` leaves no
+/// file, and a failed `append` the first half of its piece, or nothing of it where there is no memory for that.
 #[derive(Debug, Drop)]
 pub struct MemFolder {
     chain: Chain,
@@ -116,7 +116,15 @@ impl Folder for MemFolder {
         })
     }
 
-    fn adopt(&mut self, other: MemFolder) {
+    fn adopt(&mut self, other: MemFolder)
+        requires { CanJoin (port_of self.old.chain) (port_of other.chain) }
+        ensures joined { Joins (port_of self.old.chain) (port_of other.chain) (port_of self.new.chain) }
+        ensures planned { KeepsPlan self.old.faults self.new.faults }
+        ensures added { self.new.faults.count ≡ min (self.old.faults.count + other.faults.count) (2 ^ 64 - 1) }
+        ensures kept { self.old.faults.count ≤ self.new.faults.count }
+        ensures stays_sound { is_sound other.faults ≡ true
+            → StaysSound (is_sound self.old.faults) (is_sound self.new.faults) self.new.faults.count }
+    {
         let MemFolder {
             mut chain,
             faults,
@@ -162,7 +170,9 @@ impl Folder for MemFolder {
 
     fn append(&mut self, file: &mut MemFile, piece: &[u8]) -> Result<(), FolderRefusal>
         ensures appended { OnOk result (file.new.content ≡ with_bytes file.old.content piece.now) }
-        ensures failed { IsErrOf result FolderRefusal.Fault → (file.new.content ≡ with_bytes file.old.content (take (length piece.now / 2) piece.now)) ⊎ (file.new.content ≡ file.old.content) }
+        ensures failed { IsErrOf result FolderRefusal.Fault
+            → (file.new.content ≡ with_bytes file.old.content (take (length piece.now / 2) piece.now))
+            ⊎ (file.new.content ≡ file.old.content) }
         ensures memory { IsErrOf result FolderRefusal.Memory → file.new.content ≡ file.old.content }
         ensures name { file.new.name ≡ file.old.name }
         ensures same { self.new.chain ≡ self.old.chain }
@@ -212,7 +222,10 @@ impl Folder for MemFolder {
         fixed
     }
 
-    fn give(&mut self, file: MemFile) {
+    fn give(&mut self, file: MemFile)
+        ensures given { Gives (port_of self.old.chain) (port_of self.new.chain) file.name file.content }
+        ensures same { self.new.faults ≡ self.old.faults }
+    {
         let (slot, node) = file.into_slot();
         self.chain.merge(slot, node);
     }

@@ -1,7 +1,6 @@
 mod FolderLaws
 mod NameOrders
-mod Readings
 mod Refusals
+mod ScriptLaws
 mod SessionLaws
 mod Sizes
-mod Writings

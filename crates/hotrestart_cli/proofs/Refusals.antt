@@ -1,15 +1,17 @@
 -- What has to be refused, and what has to be done.
 use Rattle.std.proofs.Common.{◌≡◌, ◌⊎◌, ℕ, ◌≤◌, Bool, true, List, Option, Some, None, IsSome, refl, arith, inl, inr, subst}
 use Rattle.script_text.specs.declared.line.Line.{Line}
-use Rattle.script_text.proofs.Readings.{bad_or_script}
 use Rattle.hr_base.specs.Counts.{Rose}
+use Rattle.hr_edges.specs.Edges.{IsRead}
 use Rattle.hr_base.specs.declared.name.ChunkName.{ChunkName}
 use Rattle.dir_files.specs.Files.{FileState}
 use Rattle.dir_files.specs.Ports.{Port}
 use Rattle.hotrestart_cli.specs.declared.ended.Ended.{Ended}
-use Rattle.hotrestart_cli.specs.declared.ended.Ended.TheVariants.{Whole, Words, TooLong, Line as BadLine, Input, Sink, Disk, NotBuilt, Memory}
+use Rattle.hotrestart_cli.specs.declared.ended.Ended.TheVariants.{Whole, Words, TooLong, BadLine, Input, Sink, Disk, NotBuilt, Memory}
 use Rattle.hotrestart_cli.specs.Outcome.{IsSessionEnd, IsEarly, CanRefuse, CanRefuseFolder, status_of, Tells, told, no_memory, not_taken, nothing_taken}
-use Rattle.hotrestart_cli.specs.Folders.{Because, Ran, IsScriptOf, IsUnfit, IsFit, WasRefused, WasNotBuilt}
+use Rattle.hotrestart_cli.specs.Scripts.{IsScriptOf, IsUnfit, IsFit}
+use Rattle.hotrestart_cli.specs.Folders.{Because, Ran, WasRefused, WasNotBuilt}
+use Rattle.hotrestart_cli.proofs.ScriptLaws.{bad_or_playable, too_long_for_script}
 
 -- before its lines a session is refused with the folder as it was
 pub early_session : (ended : Ended) → IsSessionEnd ended → IsEarly ended → ⊥
@@ -44,7 +46,7 @@ early_told ended _ mid now (nothing_taken t) h = elim h [ inl a ↦ cc | inr r �
 pub unfit_script : (left : Option (List ℕ)) (lines : List Line) → IsUnfit left → IsScriptOf left lines → ⊥
 unfit_script None lines u s = u
 unfit_script (Some bytes) lines u s =
-    elim u [ inl long ↦ omega (arith, long, s.0) | inr bad ↦ bad_or_script 1 bytes lines bad.0 s.1 bad.1 ]
+    elim u [ inl long ↦ omega (arith, long, s.0) | inr bad ↦ bad_or_playable bytes lines bad.0 bad.1 s ]
 
 unfit_by : (tells play : Bool) (left rest : Option (List ℕ)) (old new : Port) (before mid : Option (List ℕ)) (ended : Ended)
     → Because tells play left rest old new before mid ended → play ≡ true → IsUnfit left → CanRefuse (status_of ended)
@@ -53,10 +55,10 @@ unfit_by tells play left rest old new before mid TooLong b y u = inl refl
 unfit_by tells play left rest old new before mid (BadLine number) b y u = inl refl
 unfit_by tells play left rest old new before mid Input b y u = inr (inl refl)
 unfit_by tells play left rest old new before mid Memory b y u = inr (inr (inr refl))
-unfit_by tells play left rest old new before mid Whole b y u = absurd (unfit_script left b.1.0 u b.1.1)
-unfit_by tells play left rest old new before mid Sink b y u = absurd (unfit_script left b.1.0 u b.1.1)
-unfit_by tells play left rest old new before mid Disk b y u = absurd (unfit_script left b.1.0 u b.1.1)
-unfit_by tells play left rest old new before mid (NotBuilt name) b y u = absurd (unfit_script left b.1.0 u b.1.1)
+unfit_by tells play left rest old new before mid Whole b y u = absurd (unfit_script left b.1.lines u b.1.script)
+unfit_by tells play left rest old new before mid Sink b y u = absurd (unfit_script left b.1.lines u b.1.script)
+unfit_by tells play left rest old new before mid Disk b y u = absurd (unfit_script left b.1.lines u b.1.script)
+unfit_by tells play left rest old new before mid (NotBuilt name) b y u = absurd (unfit_script left b.1.lines u b.1.script)
 
 unfit_of : (ended : Ended) (status : ℕ) (mid now : Option (List ℕ)) → Tells ended status mid now → CanRefuse (status_of ended) → CanRefuse status
 unfit_of ended _ mid now (told t) h = h
@@ -74,7 +76,7 @@ unfit_told tells play left rest old new before mid now ended status b t y u =
 pub fit_refused : (left rest before now : Option (List ℕ)) → IsFit left → WasRefused left rest before now → ⊥
 fit_refused None rest before now f w = f
 fit_refused (Some bytes) rest before now f w =
-    elim w [ inl long ↦ omega (arith, f.1.0, long.0.2) | inr bad ↦ bad_or_script 1 bytes f.0 bad.0 f.1.1 bad.1.1 ]
+    elim w [ inl long ↦ too_long_for_script bytes rest f.0 long.0 f.1 | inr bad ↦ bad_or_playable bytes f.0 bad.0 bad.1 f.1 ]
 
 done_of_status : (ended : Ended) (n : ℕ) → n ≡ status_of ended
     → (n ≡ 1 → ⊥) → (n ≡ 2 → ⊥) → (n ≡ 3 → ⊥) → (n ≡ 4 → ⊥) → (n ≡ 5 → ⊥) → (n ≡ 6 → ⊥) → (n ≡ 0) ⊎ (n ≡ 7)
@@ -172,8 +174,33 @@ pub not_whole_by : (tells play : Bool) (left rest : Option (List ℕ)) (old new 
     → Because tells play left rest old new before mid ended → ended ≡ Whole → tells ≡ true → IsSome (old.held name) → ⊥
 not_whole_by tells play left rest old new before mid ended name because e y h =
     let b = subst (λ (x : Ended). Because tells play left rest old new before mid x) e because in
-    not_whole tells b.1.0 old new before mid name b.1.2 y h
+    not_whole tells b.1.lines old new before mid name b.1.ran y h
 
 -- and a folder without files is not refused for one
 pub not_refused : (port : Port) (before now : Option (List ℕ)) → ((name : ChunkName) → port.held name ≡ None) → WasNotBuilt port before now → ⊥
 not_refused port before now none w = nothing_held (port.held w.name) (none w.name) w.first.held
+
+-- ---- how far the script was read
+
+abbrev IsAfterScript : ℕ → Type 0
+IsAfterScript status = (status ≡ 0) ⊎ (status ≡ 5) ⊎ (status ≡ 6)
+
+read_by : (tells play : Bool) (left rest : Option (List ℕ)) (old new : Port) (before mid : Option (List ℕ)) (ended : Ended)
+    → Because tells play left rest old new before mid ended → IsAfterScript (status_of ended) → IsRead left rest
+read_by tells play left rest old new before mid Whole b h = b.1.read
+read_by tells play left rest old new before mid Disk b h = b.1.read
+read_by tells play left rest old new before mid (NotBuilt name) b h = b.1.read
+read_by tells play left rest old new before mid Words b h = elim h [ inl x ↦ cc | inr r ↦ elim r [ inl y ↦ cc | inr z ↦ cc ] ]
+read_by tells play left rest old new before mid TooLong b h = elim h [ inl x ↦ cc | inr r ↦ elim r [ inl y ↦ cc | inr z ↦ cc ] ]
+read_by tells play left rest old new before mid (BadLine number) b h = b.2
+read_by tells play left rest old new before mid Input b h = elim h [ inl x ↦ cc | inr r ↦ elim r [ inl y ↦ cc | inr z ↦ cc ] ]
+read_by tells play left rest old new before mid Sink b h = b.1.read
+read_by tells play left rest old new before mid Memory b h = elim h [ inl x ↦ cc | inr r ↦ elim r [ inl y ↦ cc | inr z ↦ cc ] ]
+
+-- a script that was played, or refused by the folder, was read to its end
+pub read_told : (tells play : Bool) (left rest : Option (List ℕ)) (old new : Port) (before mid now : Option (List ℕ)) (ended : Ended) (status : ℕ)
+    → Because tells play left rest old new before mid ended → Tells ended status mid now → IsAfterScript status → IsRead left rest
+read_told tells play left rest old new before mid now ended _ b (told t) h = read_by tells play left rest old new before mid ended b h
+read_told tells play left rest old new before mid now ended _ b (no_memory t) h = elim h [ inl x ↦ cc | inr r ↦ elim r [ inl y ↦ cc | inr z ↦ cc ] ]
+read_told tells play left rest old new before mid now ended _ b (not_taken t) h = elim h [ inl x ↦ cc | inr r ↦ elim r [ inl y ↦ cc | inr z ↦ cc ] ]
+read_told tells play left rest old new before mid now ended _ b (nothing_taken t) h = elim h [ inl x ↦ cc | inr r ↦ elim r [ inl y ↦ cc | inr z ↦ cc ] ]

@@ -1,59 +1,47 @@
 -- One more line of a session.
 use Rattle.std.specs.Prelude.{◌≡◌, ℕ, ◌+◌, ◌<◌, ◌≤◌, Bool, true, List, [], ◌∷◌, ◌++◌, length, take, Option, Some, None, slice_get, slice_index_or, drop, refl, zero, suc}
 use Rattle.std.proofs.Common.{sym, ◌∙◌, ap, subst, arith, append_assoc, take-append-drop}
-use Rattle.std.proofs.Math.Seq.{take-append-add}
 use Rattle.std.proofs.lemmas.List.{append-nil, take_more, take_all}
 use Rattle.std.proofs.lemmas.List.Sums.{sum_by-append}
 use Rattle.hr_base.specs.Entries.{Entries}
+use Rattle.hr_edges.specs.Edges.{Takes, TakesFront, TakesAtLeast}
+use Rattle.hr_edges.proofs.Writings.{Takes-append, Takes-nothing, TakesAtLeast-append}
+use Rattle.crash_law.specs.Accounts.{Account}
 use Rattle.script_text.specs.declared.line.Line.{Line}
-use Rattle.script_text.specs.Replies.{replies, text_after, maps_after_line, maps_after_lines}
-use Rattle.partition_writer.specs.Accounts.{Account}
+use Rattle.script_text.specs.Lines.{partition_of}
+use Rattle.script_text.specs.Replies.{changed_at, replies, text_after, maps_after_line, maps_after_one, maps_after_lines}
 use Rattle.partition_writer.specs.Standing.{Standing, StandsFor}
-use Rattle.hotrestart_cli.specs.Outcome.{Takes, TakesFront, TakesAtLeast}
 use Rattle.hotrestart_cli.specs.declared.ended.Ended.TheVariants.{Whole, Sink, Disk, Memory}
-use Rattle.hotrestart_cli.specs.Session.{account_after_line, account_after_lines, account_after_refused, line_size, lines_size, Played}
+use Rattle.hotrestart_cli.specs.Session.{account_after_line, accounts_after_lines, account_after_refused, accounts_after_refused, line_size, lines_size, Played}
 
-replies-push : (lines : List Line) (line : Line) (m : Entries) → replies (lines ++ line ∷ []) m ≡ replies lines m ++ text_after line (maps_after_lines lines m)
-replies-push [] line m = append-nil (text_after line m)
+-- what is changed at the one partition is changed there
+at_zero : {A : Type 0} (before after : ℕ → A) (p : ℕ) → p ≡ 0 → changed_at before p (after p) 0 ≡ after 0
+at_zero before after p e = subst (λ (q : ℕ). changed_at before q (after q) 0 ≡ after 0) (sym e) refl
+
+replies-push : (lines : List Line) (line : Line) (m : ℕ → Entries) → replies (lines ++ line ∷ []) m ≡ replies lines m ++ text_after line (maps_after_lines lines m (partition_of line))
+replies-push [] line m = append-nil (text_after line (m (partition_of line)))
 replies-push (x ∷ xs) line m =
-    ap (λ (t : List ℕ). text_after x m ++ t) (replies-push xs line (maps_after_line x m)) ∙ sym (append_assoc (text_after x m) (replies xs (maps_after_line x m)) (text_after line (maps_after_lines xs (maps_after_line x m))))
+    ap (λ (t : List ℕ). text_after x (m (partition_of x)) ++ t) (replies-push xs line (maps_after_one x m))
+    ∙ sym (append_assoc (text_after x (m (partition_of x))) (replies xs (maps_after_one x m)) (text_after line (maps_after_lines xs (maps_after_one x m) (partition_of line))))
 
-maps_after_lines-push : (lines : List Line) (line : Line) (m : Entries) → maps_after_lines (lines ++ line ∷ []) m ≡ maps_after_line line (maps_after_lines lines m)
+maps_after_lines-push : (lines : List Line) (line : Line) (m : ℕ → Entries) → maps_after_lines (lines ++ line ∷ []) m ≡ maps_after_one line (maps_after_lines lines m)
 maps_after_lines-push [] line m = refl
-maps_after_lines-push (x ∷ xs) line m = maps_after_lines-push xs line (maps_after_line x m)
+maps_after_lines-push (x ∷ xs) line m = maps_after_lines-push xs line (maps_after_one x m)
 
-account_after_lines-push : (lines : List Line) (line : Line) (a : Account) → account_after_lines (lines ++ line ∷ []) a ≡ account_after_line line (account_after_lines lines a)
-account_after_lines-push [] line a = refl
-account_after_lines-push (x ∷ xs) line a = account_after_lines-push xs line (account_after_line x a)
+abbrev accounts_after_one : Line → (ℕ → Account) → ℕ → Account
+accounts_after_one line accounts = changed_at accounts (partition_of line) (account_after_line line (accounts (partition_of line)))
+
+accounts_after_lines-push : (lines : List Line) (line : Line) (a : ℕ → Account) → accounts_after_lines (lines ++ line ∷ []) a ≡ accounts_after_one line (accounts_after_lines lines a)
+accounts_after_lines-push [] line a = refl
+accounts_after_lines-push (x ∷ xs) line a = accounts_after_lines-push xs line (accounts_after_one x a)
 
 -- where the session stands after the first lines
 pub record SoFar (tells : Bool) (lines : List Line) (count : ℕ) (old new : Standing) (before now : Option (List ℕ)) : Type 0 where
-  pub maps : new.maps ≡ maps_after_lines (take count lines) old.maps
-  pub text : Takes before now (replies (take count lines) old.maps)
+  pub maps : (m : ℕ → Entries) → m 0 ≡ old.maps → new.maps ≡ maps_after_lines (take count lines) m 0
+  pub text : (m : ℕ → Entries) → m 0 ≡ old.maps → Takes before now (replies (take count lines) m)
   pub running : new.halted ≡ None
   pub numbers : new.next ≤ old.next + count
-  pub account : tells ≡ true → (a : Account) (size : ℕ) → StandsFor old a size → StandsFor new (account_after_lines (take count lines) a) (size + lines_size (take count lines))
-
-pub Takes-append : (old mid new : Option (List ℕ)) (a b : List ℕ) → Takes old mid a → Takes mid new b → Takes old new (a ++ b)
-Takes-append None mid new a b s t = tt
-Takes-append (Some x) None new a b s t = cc
-Takes-append (Some x) (Some y) new a b s t =
-    let is : y ≡ x ++ a = cc in
-    t ∙ ap (λ (z : List ℕ). Some (z ++ b)) is ∙ ap Some (append_assoc x a b)
-
-pub Takes-nothing : (old : Option (List ℕ)) → Takes old old []
-Takes-nothing None = tt
-Takes-nothing (Some x) = ap Some (sym (append-nil x))
-
-pub TakesAtLeast-append : (old mid new : Option (List ℕ)) (a b : List ℕ) → Takes old mid a → TakesFront mid new b → TakesAtLeast (length a) old new (a ++ b)
-TakesAtLeast-append None mid new a b s t = tt
-TakesAtLeast-append (Some x) None new a b s t = cc
-TakesAtLeast-append (Some x) (Some y) new a b s t =
-    let is : y ≡ x ++ a = cc in (
-      length a + t.0,
-      omega arith,
-      t.1 ∙ ap (λ (z : List ℕ). Some (z ++ take t.0 b)) is ∙ ap Some (append_assoc x a (take t.0 b)) ∙ ap (λ (z : List ℕ). Some (x ++ z)) (sym (take-append-add a b t.0)),
-    )
+  pub account : tells ≡ true → (a : ℕ → Account) (size : ℕ) → StandsFor old (a 0) size → StandsFor new (accounts_after_lines (take count lines) a 0) (size + lines_size (take count lines))
 
 -- the line at this place
 module _ (lines : List Line) (i : ℕ) (line : Line) (within : i < length lines) (is : line ≡ slice_index_or lines i line) where
@@ -67,11 +55,16 @@ module _ (lines : List Line) (i : ℕ) (line : Line) (within : i < length lines)
 pub StandsFor-more : (s : Standing) (a : Account) (size more : ℕ) → StandsFor s a size → size ≤ more → StandsFor s a more
 StandsFor-more s a size more h fits = record {
   durable = h.durable;
+  kept = h.kept;
+  lost = h.lost;
   missing = h.missing;
+  records = h.records;
+  one_lost = h.one_lost;
+  lost_halts = h.lost_halts;
   maps = h.maps;
   tail = h.tail;
   durable_maps = h.durable_maps;
-  maps_are = h.maps_are;
+  kept_maps = h.kept_maps;
   valid = h.valid;
   rising = h.rising;
   below = h.below;
@@ -80,36 +73,53 @@ StandsFor-more s a size more h fits = record {
   whole = h.whole;
 }
 
--- one more line was answered, and its reply written
-pub SoFar-more : (tells : Bool) (lines : List Line) (i : ℕ) (old mid new : Standing) (before then' now : Option (List ℕ)) (line : Line) (text : List ℕ)
-    → i < length lines → line ≡ slice_index_or lines i line → SoFar tells lines i old mid before then'
-    → text ≡ text_after line mid.maps → new.maps ≡ maps_after_line line mid.maps → new.halted ≡ None → new.next ≤ mid.next + 1
-    → (tells ≡ true → (a : Account) (size : ℕ) → StandsFor mid a size → StandsFor new (account_after_line line a) (size + line_size line))
-    → Takes then' now text → SoFar tells lines (i + 1) old new before now
-SoFar-more tells lines i old mid new before then' now line text within is so text_is maps running numbers account took =
-    let more = one_more lines i line within is in
-    record {
-      maps = maps ∙ ap (maps_after_line line) so.maps ∙ sym (maps_after_lines-push (take i lines) line old.maps) ∙ ap (λ (ls : List Line). maps_after_lines ls old.maps) (sym more);
-      text =
-          subst (λ (t : List ℕ). Takes before now t)
-          (ap (λ (t : List ℕ). replies (take i lines) old.maps ++ t) (text_is ∙ ap (text_after line) so.maps) ∙ sym (replies-push (take i lines) line old.maps) ∙ ap (λ (ls : List Line). replies ls old.maps) (sym more))
-          (Takes-append before then' now (replies (take i lines) old.maps) text so.text took);
-      running = running;
-      numbers = omega (arith, numbers, so.numbers);
-      account = λ t a size h.
-          let now_stands = account t _ _ (so.account t a size h) in
-          subst (λ (b : Account). StandsFor new b (size + lines_size (take (i + 1) lines))) (sym (account_after_lines-push (take i lines) line a) ∙ ap (λ (ls : List Line). account_after_lines ls a) (sym more))
-          (StandsFor-more new _ _ _ now_stands (omega (arith, size_more lines i line within is)));
-    }
+-- the line at this place, which is of the one partition
+module _ (lines : List Line) (i : ℕ) (line : Line) (within : i < length lines) (is : line ≡ slice_index_or lines i line) (of : partition_of line ≡ 0) where
+  pub text_more : (m : ℕ → Entries) → replies (take (i + 1) lines) m ≡ replies (take i lines) m ++ text_after line (maps_after_lines (take i lines) m 0)
+  text_more m =
+      ap (λ (ls : List Line). replies ls m) (one_more lines i line within is) ∙ replies-push (take i lines) line m
+      ∙ ap (λ (p : ℕ). replies (take i lines) m ++ text_after line (maps_after_lines (take i lines) m p)) of
+
+  pub maps_more : (m : ℕ → Entries) → maps_after_lines (take (i + 1) lines) m 0 ≡ maps_after_line line (maps_after_lines (take i lines) m 0)
+  maps_more m =
+      ap (λ (ls : List Line). maps_after_lines ls m 0) (one_more lines i line within is) ∙ ap (λ (f : ℕ → Entries). f 0) (maps_after_lines-push (take i lines) line m)
+      ∙ at_zero (maps_after_lines (take i lines) m) (λ p. maps_after_line line (maps_after_lines (take i lines) m p)) (partition_of line) of
+
+  pub account_more : (a : ℕ → Account) → accounts_after_lines (take (i + 1) lines) a 0 ≡ account_after_line line (accounts_after_lines (take i lines) a 0)
+  account_more a =
+      ap (λ (ls : List Line). accounts_after_lines ls a 0) (one_more lines i line within is) ∙ ap (λ (f : ℕ → Account). f 0) (accounts_after_lines-push (take i lines) line a)
+      ∙ at_zero (accounts_after_lines (take i lines) a) (λ p. account_after_line line (accounts_after_lines (take i lines) a p)) (partition_of line) of
+
+  pub account_lost : (a : ℕ → Account) → accounts_after_refused (Some line) a 0 ≡ account_after_refused line (a 0)
+  account_lost a = at_zero a (λ p. account_after_refused line (a p)) (partition_of line) of
+
+  -- one more line was answered, and its reply written
+  pub SoFar-more : (tells : Bool) (old mid new : Standing) (before then' now : Option (List ℕ)) (text : List ℕ)
+      → SoFar tells lines i old mid before then'
+      → text ≡ text_after line mid.maps → new.maps ≡ maps_after_line line mid.maps → new.halted ≡ None → new.next ≤ mid.next + 1
+      → (tells ≡ true → (a : Account) (size : ℕ) → StandsFor mid a size → StandsFor new (account_after_line line a) (size + line_size line))
+      → Takes then' now text → SoFar tells lines (i + 1) old new before now
+  SoFar-more tells old mid new before then' now text so text_is maps running numbers account took = record {
+    maps = λ m e. maps ∙ ap (maps_after_line line) (so.maps m e) ∙ sym (maps_more m);
+    text = λ m e.
+        subst (λ (t : List ℕ). Takes before now t)
+        (ap (λ (t : List ℕ). replies (take i lines) m ++ t) (text_is ∙ ap (text_after line) (so.maps m e)) ∙ sym (text_more m))
+        (Takes-append before then' now (replies (take i lines) m) text (so.text m e) took);
+    running = running;
+    numbers = omega (arith, numbers, so.numbers);
+    account = λ t a size h.
+        subst (λ (b : Account). StandsFor new b (size + lines_size (take (i + 1) lines))) (sym (account_more a))
+        (StandsFor-more new _ _ _ (account t _ _ (so.account t a size h)) (omega (arith, size_more lines i line within is)));
+  }
 
 -- before the first line
 pub SoFar-none : (tells : Bool) (lines : List Line) (s : Standing) (before : Option (List ℕ)) → s.halted ≡ None → SoFar tells lines 0 s s before before
 SoFar-none tells lines s before running = record {
-  maps = refl;
-  text = Takes-nothing before;
+  maps = λ m e. sym e;
+  text = λ m e. Takes-nothing before;
   running = running;
   numbers = omega arith;
-  account = λ t a size h. StandsFor-more s a size _ h (omega arith);
+  account = λ t a size h. StandsFor-more s (a 0) size _ h (omega arith);
 }
 
 -- ---- how a session ends
@@ -134,10 +144,10 @@ played_whole tells lines i old new before now so end =
       count = length lines;
       within = omega arith;
       all = λ _. refl;
-      text = subst (λ (ls : List Line). Takes before now (replies ls old.maps)) all so.text;
+      text = λ m e. subst (λ (ls : List Line). Takes before now (replies ls m)) all (so.text m e);
       running = λ _. so.running;
       account = λ t a size h.
-          subst (λ (ls : List Line). StandsFor new (account_after_lines ls a) (size + lines_size lines)) (all ∙ sym same)
+          subst (λ (ls : List Line). StandsFor new (accounts_after_lines ls a 0) (size + lines_size lines)) (all ∙ sym same)
           (StandsFor-more new _ _ _ (so.account t a size h) (omega (arith, sizes_within i lines)));
     }
 
@@ -149,17 +159,14 @@ played_unanswered tells lines i old mid new before now so within running extra a
   count = i;
   within = omega (arith, within);
   all = λ e. cc;
-  text = (i, omega arith, omega arith, so.text);
+  text = λ m e. (i, omega arith, omega arith, so.text m e);
   running = λ _. running;
   account = λ t a size h. StandsFor-more new _ _ _ (account t _ _ (so.account t a size h)) (omega (arith, fits));
 }
 
-module _ (lines : List Line) (i : ℕ) (line : Line) (within : i < length lines) (is : line ≡ slice_index_or lines i line) where
+module _ (lines : List Line) (i : ℕ) (line : Line) (within : i < length lines) (is : line ≡ slice_index_or lines i line) (of : partition_of line ≡ 0) where
   pub size_fits : lines_size (take i lines) + line_size line ≤ lines_size lines
   size_fits = omega (arith, size_more lines i line within is, sizes_within (i + 1) lines)
-
-  account_more : (a : Account) → account_after_lines (take (i + 1) lines) a ≡ account_after_line line (account_after_lines (take i lines) a)
-  account_more a = ap (λ (ls : List Line). account_after_lines ls a) (one_more lines i line within is) ∙ account_after_lines-push (take i lines) line a
 
   -- there was no memory for a reply
   pub played_no_reply : (tells : Bool) (old mid new : Standing) (before now : Option (List ℕ)) → SoFar tells lines i old mid before now → new.halted ≡ None
@@ -168,16 +175,16 @@ module _ (lines : List Line) (i : ℕ) (line : Line) (within : i < length lines)
     count = i + 1;
     within = omega (arith, within);
     all = λ e. cc;
-    text = (i, omega arith, omega arith, so.text);
+    text = λ m e. (i, omega arith, omega arith, so.text m e);
     running = λ _. running;
     account = λ t a size h.
-        subst (λ (b : Account). StandsFor new b (size + lines_size lines)) (sym (account_more a))
+        subst (λ (b : Account). StandsFor new b (size + lines_size lines)) (sym (account_more lines i line within is of a))
         (StandsFor-more new _ _ _ (account t _ _ (so.account t a size h)) (omega (arith, size_fits)));
   }
 
   -- the disk refused a line
   pub played_refused : (tells : Bool) (old mid new : Standing) (before now : Option (List ℕ)) → SoFar tells lines i old mid before now
-      → (tells ≡ true → (a : Account) (size : ℕ) → StandsFor mid a size → StandsFor new (account_after_refused (Some line) a) (size + line_size line)) → Played tells lines old new before now Disk
+      → (tells ≡ true → (a : Account) (size : ℕ) → StandsFor mid a size → StandsFor new (account_after_refused line a) (size + line_size line)) → Played tells lines old new before now Disk
   played_refused tells old mid new before now so account = record {
     count = i;
     within = omega (arith, within);
@@ -185,8 +192,9 @@ module _ (lines : List Line) (i : ℕ) (line : Line) (within : i < length lines)
     text = so.text;
     running = λ other. absurd (other refl);
     account = λ t a size h.
-        subst (λ (o : Option Line). StandsFor new (account_after_refused o (account_after_lines (take i lines) a)) (size + lines_size lines)) (sym (slice_get_at lines i line within is))
-        (StandsFor-more new _ _ _ (account t _ _ (so.account t a size h)) (omega (arith, size_fits)));
+        subst (λ (o : Option Line). StandsFor new (accounts_after_refused o (accounts_after_lines (take i lines) a) 0) (size + lines_size lines)) (sym (slice_get_at lines i line within is))
+        (subst (λ (b : Account). StandsFor new b (size + lines_size lines)) (sym (account_lost lines i line within is of (accounts_after_lines (take i lines) a)))
+        (StandsFor-more new _ _ _ (account t _ _ (so.account t a size h)) (omega (arith, size_fits))));
   }
 
   -- the sink failed at a reply
@@ -199,15 +207,14 @@ module _ (lines : List Line) (i : ℕ) (line : Line) (within : i < length lines)
     within = omega (arith, within);
     all = λ e. cc;
     running = λ _. running;
-    text = (
+    text = λ m e. (
       i,
       refl,
-      subst (λ (t : List ℕ). TakesAtLeast (length (replies (take i lines) old.maps)) before now t)
-          (ap (λ (t : List ℕ). replies (take i lines) old.maps ++ t) (text_is ∙ ap (text_after line) so.maps) ∙ sym (replies-push (take i lines) line old.maps)
-          ∙ ap (λ (ls : List Line). replies ls old.maps) (sym (one_more lines i line within is)))
-          (TakesAtLeast-append before then' now (replies (take i lines) old.maps) text so.text took),
+      subst (λ (t : List ℕ). TakesAtLeast (length (replies (take i lines) m)) before now t)
+          (ap (λ (t : List ℕ). replies (take i lines) m ++ t) (text_is ∙ ap (text_after line) (so.maps m e)) ∙ sym (text_more lines i line within is of m))
+          (TakesAtLeast-append before then' now (replies (take i lines) m) text (so.text m e) took),
     );
     account = λ t a size h.
-        subst (λ (b : Account). StandsFor new b (size + lines_size lines)) (sym (account_more a))
+        subst (λ (b : Account). StandsFor new b (size + lines_size lines)) (sym (account_more lines i line within is of a))
         (StandsFor-more new _ _ _ (account t _ _ (so.account t a size h)) (omega (arith, size_fits)));
   }

@@ -1,8 +1,6 @@
+pub mod Ends
 pub mod Outcome
-pub mod NameOrder
-pub mod Session
-pub mod Writing
-pub mod Reading
-pub mod Words
-pub mod Folders
 pub mod Scripts
+pub mod Session
+pub mod Folders
+pub mod Words

@@ -1,15 +1,16 @@
 -- How a session ends, and what is told of it.
-use Rattle.std.specs.Prelude.{◌≡◌, ◌≤◌, ◌⊎◌, ℕ, List, [], ◌++◌, take, Option, Some, None, codes, decimal}
+use Rattle.std.specs.Prelude.{◌≡◌, ◌⊎◌, ℕ, List, [], ◌++◌, Option, codes, decimal}
 use Rattle.hr_base.specs.Names.{IsChunkName, name_text}
+use Rattle.hr_edges.specs.Edges.{Takes, TakesFront}
 use Rattle.hotrestart_cli.specs.declared.ended.Ended.{Ended}
-use Rattle.hotrestart_cli.specs.declared.ended.Ended.TheVariants.{Whole, Words, TooLong, Line, Input, Sink, Disk, NotBuilt, Memory}
+use Rattle.hotrestart_cli.specs.declared.ended.Ended.TheVariants.{Whole, Words, TooLong, BadLine, Input, Sink, Disk, NotBuilt, Memory}
 
 -- the status that the program ends with
 abbrev pub status_of : Ended → ℕ
 status_of Whole = 0
 status_of Words = 1
 status_of TooLong = 2
-status_of (Line number) = 2
+status_of (BadLine number) = 2
 status_of Input = 3
 status_of Sink = 4
 status_of Disk = 5
@@ -21,27 +22,12 @@ abbrev pub last_line : Ended → List ℕ
 last_line Whole = []
 last_line Words = []
 last_line TooLong = codes "refused too long\n"
-last_line (Line number) = codes "refused line " ++ decimal number ++ codes "\n"
+last_line (BadLine number) = codes "refused line " ++ decimal number ++ codes "\n"
 last_line Input = codes "refused input\n"
 last_line Sink = []
 last_line Disk = codes "refused disk\n"
 last_line (NotBuilt name) = codes "refused not-built " ++ name_text name ++ codes "\n"
 last_line Memory = codes "refused memory\n"
-
--- the sink took these bytes, where it tells what it takes
-abbrev pub Takes : Option (List ℕ) → Option (List ℕ) → List ℕ → Type 0
-Takes None new bytes = Unit {0}
-Takes (Some old) new bytes = new ≡ Some (old ++ bytes)
-
--- the sink took a front of these bytes
-abbrev pub TakesFront : Option (List ℕ) → Option (List ℕ) → List ℕ → Type 0
-TakesFront None new bytes = Unit {0}
-TakesFront (Some old) new bytes = (n : ℕ) × (new ≡ Some (old ++ take n bytes))
-
--- the sink took a front of these bytes that has at least so many
-abbrev pub TakesAtLeast : ℕ → Option (List ℕ) → Option (List ℕ) → List ℕ → Type 0
-TakesAtLeast least None new bytes = Unit {0}
-TakesAtLeast least (Some old) new bytes = (n : ℕ) × (least ≤ n) × (new ≡ Some (old ++ take n bytes))
 
 -- How the status and the last line tell the end: as they should; or that there was no memory to tell it; or the sink
 -- failed meanwhile, with a front of the last line taken.
@@ -60,7 +46,7 @@ IsSessionEnd Memory = Unit {0}
 IsSessionEnd (NotBuilt name) = IsChunkName name
 IsSessionEnd Words = ⊥
 IsSessionEnd TooLong = ⊥
-IsSessionEnd (Line number) = ⊥
+IsSessionEnd (BadLine number) = ⊥
 IsSessionEnd Input = ⊥
 
 -- what the last line speaks of can be printed
@@ -69,7 +55,7 @@ IsTellable (NotBuilt name) = IsChunkName name
 IsTellable Whole = Unit {0}
 IsTellable Words = Unit {0}
 IsTellable TooLong = Unit {0}
-IsTellable (Line number) = Unit {0}
+IsTellable (BadLine number) = Unit {0}
 IsTellable Input = Unit {0}
 IsTellable Sink = Unit {0}
 IsTellable Disk = Unit {0}
@@ -79,7 +65,7 @@ IsTellable Memory = Unit {0}
 abbrev pub IsEarly : Ended → Type 0
 IsEarly Words = Unit {0}
 IsEarly TooLong = Unit {0}
-IsEarly (Line number) = Unit {0}
+IsEarly (BadLine number) = Unit {0}
 IsEarly Input = Unit {0}
 IsEarly Whole = ⊥
 IsEarly Sink = ⊥

@@ -2,11 +2,12 @@
 
 ghost use Rattle.std.specs.Prelude.{◌≡◌, ◌+◌, ◌<◌, ◌≤◌, ◌^◌, ℕ, true, false, List, [], length, Some, IfOk, IfErr, OnOk, IsErrOf, vec_len};
 ghost use Rattle.hr_base.specs.Counts.{Rose};
+ghost use Rattle.hr_edges.specs.Edges.{ReadsTooMuch, WasRead};
 ghost use Rattle.hotrestart_cli.specs.declared.input.InputRefusal.{InputRefusal};
-ghost use Rattle.hotrestart_cli.specs.Reading.{WasRead, ReadsTooMuch};
+ghost use Rattle.hotrestart_cli.specs.declared.input.InputRefusal.TheVariants.{Memory as NoMemory, Failed as InputFailed};
 
-use hr_edges::Source;
-use std::alloc::Global;
+use hr_edges::{Failed, Source};
+use std::alloc::{AllocError, Global};
 
 /// The most bytes that a script may have.
 pub const MOST: usize = 1 << 25;
@@ -23,6 +24,22 @@ pub enum InputRefusal {
     TooLong,
     /// The input failed.
     Failed,
+}
+
+impl From<AllocError> for InputRefusal {
+    ghost from_gives = { λ _ e. e ≡ NoMemory };
+
+    fn from(_refused: AllocError) -> InputRefusal {
+        InputRefusal::Memory
+    }
+}
+
+impl From<Failed> for InputRefusal {
+    ghost from_gives = { λ _ e. e ≡ InputFailed };
+
+    fn from(_failed: Failed) -> InputRefusal {
+        InputRefusal::Failed
+    }
 }
 
 /// Reads a piece, and puts it behind the bytes. The answer is whether bytes may be left.
@@ -62,7 +79,7 @@ fn read_more<S: Source>(
     ensures short { vec_len bytes.old ≤ 2 ^ 25 → OnOk result (vec_len bytes.new ≤ 2 ^ 25) }
     ensures read { (all : List ℕ) → WasRead (S.left input.old) all bytes.old.items → OnOk result (WasRead (S.left input.new) all bytes.new.items) }
     ensures done { (all : List ℕ) → WasRead (S.left input.old) all bytes.old.items → IfOk result (λ more. more ≡ false → all ≡ bytes.new.items) }
-    ensures too_long { (all : List ℕ) → WasRead (S.left input.old) all bytes.old.items → IsErrOf result InputRefusal.TooLong → ReadsTooMuch all (S.left input.new) }
+    ensures too_long { (all : List ℕ) → WasRead (S.left input.old) all bytes.old.items → IsErrOf result InputRefusal.TooLong → ReadsTooMuch (2 ^ 25) all (S.left input.new) }
     ensures fault { IsErrOf result InputRefusal.Failed → Rose (S.count input.old) (S.count input.new) }
     ensures kept { S.count input.old ≤ S.count input.new }
 {
@@ -87,7 +104,7 @@ fn read_through<S: Source>(
     ensures short { IfOk result (λ bytes. vec_len bytes ≤ 2 ^ 25) }
     ensures found { (all : List ℕ) → S.left input.old ≡ Some all → IfOk result (λ bytes. bytes.items ≡ all) }
     ensures ended { (all : List ℕ) → S.left input.old ≡ Some all → OnOk result (S.left input.new ≡ Some []) }
-    ensures too_long { (all : List ℕ) → S.left input.old ≡ Some all → IsErrOf result InputRefusal.TooLong → ReadsTooMuch all (S.left input.new) }
+    ensures too_long { (all : List ℕ) → S.left input.old ≡ Some all → IsErrOf result InputRefusal.TooLong → ReadsTooMuch (2 ^ 25) all (S.left input.new) }
     ensures fault { IsErrOf result InputRefusal.Failed → Rose (S.count input.old) (S.count input.new) }
     ensures kept { S.count input.old ≤ S.count input.new }
 {
@@ -118,7 +135,7 @@ pub fn read_all<S: Source>(alloc: Global, input: &mut S) -> Result<Vec<u8>, Inpu
     ensures short { IfOk result (λ bytes. vec_len bytes ≤ 2 ^ 25) }
     ensures found { (all : List ℕ) → S.left input.old ≡ Some all → IfOk result (λ bytes. bytes.items ≡ all) }
     ensures ended { (all : List ℕ) → S.left input.old ≡ Some all → OnOk result (S.left input.new ≡ Some []) }
-    ensures too_long { (all : List ℕ) → S.left input.old ≡ Some all → IsErrOf result InputRefusal.TooLong → ReadsTooMuch all (S.left input.new) }
+    ensures too_long { (all : List ℕ) → S.left input.old ≡ Some all → IsErrOf result InputRefusal.TooLong → ReadsTooMuch (2 ^ 25) all (S.left input.new) }
     ensures fault { IsErrOf result InputRefusal.Failed → Rose (S.count input.old) (S.count input.new) }
     ensures kept { S.count input.old ≤ S.count input.new }
 {

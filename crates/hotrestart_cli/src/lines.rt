@@ -2,8 +2,8 @@
 
 ghost use Rattle.std.specs.Prelude.{◌≡◌, ◌<◌, ◌≤◌, ◌^◌, ◌+◌, ℕ, length, All, None};
 ghost use Rattle.hr_base.specs.Counts.{Rose};
-ghost use Rattle.partition_writer.specs.Standing.{standing};
-ghost use Rattle.script_text.specs.Lines.{IsLine};
+ghost use Rattle.partition_writer.specs.WriterViews.{standing};
+ghost use Rattle.hotrestart_cli.specs.Scripts.{IsPlayable};
 ghost use Rattle.hotrestart_cli.specs.declared.ended.Ended.{Ended};
 ghost use Rattle.hotrestart_cli.specs.Session.{Played};
 
@@ -11,6 +11,7 @@ use crate::ended::Ended;
 use crate::output::write_all;
 use crate::step::{Step, answer};
 use dir_files::Folder;
+use hr_base::SEQ_END;
 use hr_edges::Sink;
 use partition_writer::Writer;
 use script_text::Line;
@@ -22,13 +23,13 @@ pub fn play_lines<F: Folder, K: Sink>(
     out: &mut K,
     text: &mut Vec<u8>,
 ) -> Ended
-    requires valid { All (IsLine 1) lines.now }
-    requires running { (standing F.port F.count F.sound F.File.name F.state writer.old).halted ≡ None }
-    requires room { (standing F.port F.count F.sound F.File.name F.state writer.old).next + length lines.now < 2 ^ 63 }
-    ensures played { Played F.tells lines.now (standing F.port F.count F.sound F.File.name F.state writer.old) (standing F.port F.count F.sound F.File.name F.state writer.new) (K.taken out.old) (K.taken out.new) result }
-    ensures disk { result ≡ Ended.Disk → Rose (standing F.port F.count F.sound F.File.name F.state writer.old).faults (standing F.port F.count F.sound F.File.name F.state writer.new).faults }
+    requires valid { All (IsPlayable) lines.now }
+    requires running { (standing writer.old).halted ≡ None }
+    requires room { (standing writer.old).next + length lines.now < SEQ_END }
+    ensures played { Played F.tells lines.now (standing writer.old) (standing writer.new) (K.taken out.old) (K.taken out.new) result }
+    ensures disk { result ≡ Ended.Disk → Rose (standing writer.old).faults (standing writer.new).faults }
     ensures sink { result ≡ Ended.Sink → Rose (K.count out.old) (K.count out.new) }
-    ensures kept { (standing F.port F.count F.sound F.File.name F.state writer.old).faults ≤ (standing F.port F.count F.sound F.File.name F.state writer.new).faults }
+    ensures kept { (standing writer.old).faults ≤ (standing writer.new).faults }
     ensures sink_kept { K.count out.old ≤ K.count out.new }
 {
     for line in lines {

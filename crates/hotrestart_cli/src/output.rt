@@ -2,8 +2,7 @@
 
 ghost use Rattle.std.specs.Prelude.{◌≡◌, ◌<◌, ◌≤◌, IfOk, OnOk, OnErr, length, take};
 ghost use Rattle.hr_base.specs.Counts.{Rose};
-ghost use Rattle.hotrestart_cli.specs.Outcome.{Takes, TakesFront};
-ghost use Rattle.hotrestart_cli.specs.Writing.{StaysUntold};
+ghost use Rattle.hr_edges.specs.Edges.{StaysUntold, Takes, TakesFront};
 
 use hr_edges::{Failed, Sink};
 

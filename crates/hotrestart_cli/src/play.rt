@@ -2,15 +2,15 @@
 
 ghost use Rattle.std.specs.Prelude.{◌≡◌, ◌⊎◌, ◌+◌, ◌≤◌, ◌^◌, ℕ, true, [], length, All, Contains, None, IfSome, IfNone};
 ghost use Rattle.hr_base.specs.declared.name.ChunkName.{ChunkName};
-ghost use Rattle.hr_base.specs.Names.{IsChunkName};
+ghost use Rattle.hr_base.specs.Names.{IsChunkName, IsUpTo};
 ghost use Rattle.hr_base.specs.Counts.{Rose};
 ghost use Rattle.dir_files.specs.declared.folder.FolderRefusal.{FolderRefusal};
-ghost use Rattle.script_text.specs.Lines.{IsLine};
+ghost use Rattle.hotrestart_cli.specs.Scripts.{IsPlayable};
 ghost use Rattle.hotrestart_cli.specs.declared.ended.Ended.{Ended};
 ghost use Rattle.hotrestart_cli.specs.Session.{lines_size};
 ghost use Rattle.hotrestart_cli.specs.Outcome.{IsSessionEnd};
-ghost use Rattle.hotrestart_cli.specs.NameOrder.{IsUpTo, IsFirstHeld};
-ghost use Rattle.hotrestart_cli.specs.Folders.{IsCalm, IsVacant, Ran};
+ghost use Rattle.dir_files.specs.PortStates.{IsCalm, IsVacant};
+ghost use Rattle.hotrestart_cli.specs.Folders.{IsFirstHeld, Ran};
 
 use crate::ended::Ended;
 use crate::lines::play_lines;
@@ -28,7 +28,7 @@ fn play_vacant<F: Folder, K: Sink>(
     folder: &mut F,
     out: &mut K,
 ) -> Ended
-    requires valid { All (IsLine 1) lines.now }
+    requires valid { All (IsPlayable) lines.now }
     requires few { length lines.now ≤ 2 ^ 25 }
     requires small { lines_size lines.now ≤ 2 ^ 27 }
     requires vacant { F.tells ≡ true → IsVacant (F.port folder.old) }
@@ -102,7 +102,7 @@ fn play_listed<F: Folder, K: Sink>(
     folder: &mut F,
     out: &mut K,
 ) -> Ended
-    requires valid { All (IsLine 1) lines.now }
+    requires valid { All (IsPlayable) lines.now }
     requires few { length lines.now ≤ 2 ^ 25 }
     requires small { lines_size lines.now ≤ 2 ^ 27 }
     requires calm { F.tells ≡ true → IsCalm (F.port folder.old) }
@@ -127,7 +127,7 @@ fn play_listed<F: Folder, K: Sink>(
 
 /// Plays a script over a folder: makes its names durable, lists it, and plays the lines where no chunk file is there.
 pub fn play<F: Folder, K: Sink>(alloc: Global, lines: &[Line], folder: &mut F, out: &mut K) -> Ended
-    requires valid { All (IsLine 1) lines.now }
+    requires valid { All (IsPlayable) lines.now }
     requires few { length lines.now ≤ 2 ^ 25 }
     requires small { lines_size lines.now ≤ 2 ^ 27 }
     requires calm { F.tells ≡ true → IsCalm (F.port folder.old) }

@@ -5,9 +5,10 @@ ghost use Rattle.hr_base.specs.declared.name.ChunkName.{ChunkName};
 ghost use Rattle.hr_base.specs.Counts.{Rose};
 ghost use Rattle.hotrestart_cli.specs.declared.ended.Ended.{Ended};
 ghost use Rattle.hotrestart_cli.specs.Words.{is_play};
-ghost use Rattle.hotrestart_cli.specs.Reading.{IsRead};
-ghost use Rattle.hotrestart_cli.specs.NameOrder.{IsFirstHeld};
-ghost use Rattle.hotrestart_cli.specs.Folders.{Because, IsCalm, IsFit, IsUnfit, Served, WasDone, WasRefused, WasNotBuilt};
+ghost use Rattle.hr_edges.specs.Edges.{IsRead};
+ghost use Rattle.dir_files.specs.PortStates.{IsCalm};
+ghost use Rattle.hotrestart_cli.specs.Scripts.{IsFit, IsUnfit};
+ghost use Rattle.hotrestart_cli.specs.Folders.{Because, IsFirstHeld, Served, WasDone, WasRefused, WasNotBuilt};
 ghost use Rattle.hotrestart_cli.specs.Outcome.{IsTellable, IsEarly, CanRefuse, CanRefuseFolder};
 
 use crate::ended::Ended;
@@ -65,7 +66,7 @@ pub fn serve<F: Folder, S: Source, K: Sink>(
     ensures calm { F.tells ≡ true → IsCalm (F.port folder.new) }
     // What was replied, what was refused and why, what every crash leaves, and what is read where the disk did not fail.
     ensures served { Served F.tells (is_play words.now) (S.left input.old) (S.left input.new) (F.port folder.old) (F.port folder.new) (F.count folder.old) (F.count folder.new) (K.taken out.old) (K.taken out.new) result }
-    // A script in the grammar, a folder without chunk files and no fault: all is done, unless memory is wanting.
+    // A script that can be played, a folder without chunk files and no fault: all is done, unless memory is wanting.
     ensures complete { F.tells ≡ true → is_play words.now ≡ true → IsFit (S.left input.old) → ((name : ChunkName) → (F.port folder.old).held name ≡ None)
         → (Rose (S.count input.old) (S.count input.new) → ⊥) → (Rose (K.count out.old) (K.count out.new) → ⊥) → (Rose (F.count folder.old) (F.count folder.new) → ⊥)
         → (result ≡ 0) ⊎ (result ≡ 7) }
@@ -73,11 +74,12 @@ pub fn serve<F: Folder, S: Source, K: Sink>(
     // Status 0: the source was read to its end, the whole script was done, and its replies, all of them and nothing
     // else, were taken.
     ensures whole { result ≡ 0 → WasDone (S.left input.old) (K.taken out.old) (K.taken out.new) }
-    ensures ended { result ≡ 0 → IsRead (S.left input.old) (S.left input.new) }
+    // Statuses 0, 5 and 6: the source was read to its end; status 2 says itself how far it was read.
+    ensures ended { (result ≡ 0) ⊎ (result ≡ 5) ⊎ (result ≡ 6) → IsRead (S.left input.old) (S.left input.new) }
     // Status 1: exactly where the words are not those of the command. Nothing was touched.
     ensures words { result ≡ 1 ↔ (is_play words.now ≡ false) }
     ensures idle { result ≡ 1 → (folder.new ≡ folder.old) × (input.new ≡ input.old) × (out.new ≡ out.old) }
-    // Status 2: more was read than a script may have, or a line is the first that is none; that is told, and nothing
+    // Status 2: more was read than a script may have, or a line is the first at fault; that is told, and nothing
     // else. For such a script the folder stays as it was, whatever the status.
     ensures refused { result ≡ 2 → WasRefused (S.left input.old) (S.left input.new) (K.taken out.old) (K.taken out.new) }
     ensures unfit { is_play words.now ≡ true → IsUnfit (S.left input.old) → CanRefuse result × (folder.new ≡ folder.old) }

@@ -4,7 +4,8 @@ ghost use Rattle.std.specs.Prelude.{◌≡◌, ◌≤◌, ◌⊎◌, ◌++◌, [
 ghost use Rattle.hr_base.specs.Names.{IsChunkName, name_text};
 ghost use Rattle.hr_base.specs.Counts.{Rose};
 ghost use Rattle.hotrestart_cli.specs.declared.ended.Ended.{Ended};
-ghost use Rattle.hotrestart_cli.specs.Outcome.{Tells, IsTellable, last_line, status_of, Takes, TakesFront};
+ghost use Rattle.hr_edges.specs.Edges.{Takes, TakesFront};
+ghost use Rattle.hotrestart_cli.specs.Outcome.{Tells, IsTellable, last_line, status_of};
 
 use crate::ended::Ended;
 use crate::output::write_all;
@@ -21,7 +22,7 @@ fn status(ended: Ended) -> u8
         Ended::Whole => 0,
         Ended::Words => 1,
         Ended::TooLong => 2,
-        Ended::Line { number: _ } => 2,
+        Ended::BadLine { number: _ } => 2,
         Ended::Input => 3,
         Ended::Sink => 4,
         Ended::Disk => 5,
@@ -50,7 +51,7 @@ fn text(alloc: Global, ended: Ended) -> Result<Vec<u8>, AllocError>
         Ended::Whole => Ok(Vec::new(alloc)),
         Ended::Words => Ok(Vec::new(alloc)),
         Ended::TooLong => Vec::from_slice(alloc, b"refused too long\n"),
-        Ended::Line { number } => {
+        Ended::BadLine { number } => {
             let mut buffer = Buffer::new();
             line_with(alloc, b"refused line ", buffer.format(number).as_bytes())
         }

@@ -27,6 +27,7 @@ const FORKED: usize = 1;
 /// A run over an empty folder: command words, script, status, what is printed, and what the chunk file holds then.
 #[derive(Clone, Copy)]
 struct Run {
+    name: &'static str,
     command: &'static str,
     script: &'static [u8],
     status: u8,
@@ -38,8 +39,13 @@ struct Run {
 const RECORD: &[u8] =
     b"\x00\x00\x00\x00\x00\x00\x00\x01\x00\x00\x00\x00\x00\x00\x00\x05\x00\x00\x00\x02\x00\x00\x00\x02k1v1";
 
-const RUNS: [Run; 5] = [
+/// What is stored of an empty key with an empty value, and of a key of one zero byte.
+const ESCAPED: &[u8] =
+    b"\x00\x00\x00\x00\x00\x00\x00\x01\x00\x00\x00\x00\x00\x00\x00\x01\x00\x00\x00\x00\x00\x00\x00\x00\x00\x00\x00\x00\x00\x00\x00\x02\x00\x00\x00\x00\x00\x00\x00\x01\x00\x00\x00\x01\x00\x00\x00\x01\x00a";
+
+const RUNS: [Run; 9] = [
     Run {
+        name: "the first script",
         command: "play",
         script: b"0 put 5 k1 v1\n0 sync\n0 get 5 k1\n",
         status: 0,
@@ -47,6 +53,7 @@ const RUNS: [Run; 5] = [
         stored: Some(RECORD),
     },
     Run {
+        name: "nothing is put",
         command: "play",
         script: b"0 get 5 k1\n0 sync",
         status: 0,
@@ -54,6 +61,7 @@ const RUNS: [Run; 5] = [
         stored: None,
     },
     Run {
+        name: "a field is missing",
         command: "play",
         script: b"0 put 5 k1 v1\n0 put 5 k1 \n",
         status: 2,
@@ -61,6 +69,39 @@ const RUNS: [Run; 5] = [
         stored: None,
     },
     Run {
+        name: "empty keys and values, and bytes by their digits",
+        command: "play",
+        script: b"0 put 1 % %\n0 get 1 %\n0 put 1 %00 a\n0 get 1 %00",
+        status: 0,
+        printed: b"0 none\n0 is %\n0 none\n0 is a\n",
+        stored: Some(ESCAPED),
+    },
+    Run {
+        name: "digits for a byte that stands for itself",
+        command: "play",
+        script: b"0 get 1 %2e\n",
+        status: 2,
+        printed: b"refused line 1\n",
+        stored: None,
+    },
+    Run {
+        name: "a removal is not built",
+        command: "play",
+        script: b"0 put 5 k1 v1\n0 remove 5 k1\n0 clear 5\n",
+        status: 2,
+        printed: b"refused line 2\n",
+        stored: None,
+    },
+    Run {
+        name: "a clearing is not built",
+        command: "play",
+        script: b"0 put 5 k1 v1\n0 sync\n0 clear 5",
+        status: 2,
+        printed: b"refused line 3\n",
+        stored: None,
+    },
+    Run {
+        name: "an empty script",
         command: "play",
         script: b"",
         status: 0,
@@ -68,6 +109,7 @@ const RUNS: [Run; 5] = [
         stored: None,
     },
     Run {
+        name: "another command",
         command: "plai",
         script: b"0 sync\n",
         status: 1,
@@ -99,15 +141,15 @@ impl Outcome {
     }
 
     /// Compares the status and what was printed.
-    fn expect(&self, rt: &impl Abort, status: u8, printed: &[u8]) {
-        assert_eq!(rt; self.status, status);
-        assert_eq!(rt; self.out.taken(), printed);
+    fn expect(&self, rt: &impl Abort, name: &str, status: u8, printed: &[u8]) {
+        assert_eq!(rt; self.status, status, "{name}");
+        assert_eq!(rt; self.out.taken(), printed, "{name}");
     }
 
     /// Compares the calls of the folder and of the port that it gave.
-    fn expect_calls(&self, rt: &impl Abort, root: &[Call], forked: &[Call]) {
-        assert_eq!(rt; self.folder.calls(ROOT), root);
-        assert_eq!(rt; self.folder.calls(FORKED), forked);
+    fn expect_calls(&self, rt: &impl Abort, name: &str, root: &[Call], forked: &[Call]) {
+        assert_eq!(rt; self.folder.calls(ROOT), root, "{name}");
+        assert_eq!(rt; self.folder.calls(FORKED), forked, "{name}");
     }
 }
 
@@ -136,8 +178,9 @@ fn check_run(rt: &impl Abort, alloc: Global, run: &Run) -> Result<(), Fail> {
     let input = MemSource::new(run.script.to_vec(alloc)?, Vec::new(alloc));
     let out = MemSink::new(alloc, 100, Vec::new(alloc))?;
     let outcome = run_over(rt, alloc, run.command, Vec::new(alloc), input, out)?;
-    outcome.expect(rt, run.status, run.printed);
-    assert_eq!(rt; outcome.stored(), run.stored);
+    outcome.expect(rt, run.name, run.status, run.printed);
+    let name = run.name;
+    assert_eq!(rt; outcome.stored(), run.stored, "{name}");
     Ok(())
 }
 
@@ -154,6 +197,7 @@ fn runs_print_and_store_by_the_table(rt: HostRuntime) -> Result<(), Fail> {
 /// has room for. What is stored is so many first bytes of its record.
 #[derive(Clone, Copy)]
 struct Faulty {
+    name: &'static str,
     folder: u64,
     port: u64,
     source: u64,
@@ -168,6 +212,7 @@ struct Faulty {
 const NEVER: u64 = u64::MAX;
 
 const SOUND: Faulty = Faulty {
+    name: "one byte a read and seven a write",
     folder: NEVER,
     port: NEVER,
     source: NEVER,
@@ -182,9 +227,14 @@ const SOUND: Faulty = Faulty {
 const FAULTY: [Faulty; 11] = [
     SOUND,
     // How finely the bytes come and go changes nothing.
-    Faulty { most: 1, ..SOUND },
+    Faulty {
+        name: "one byte a read and a write",
+        most: 1,
+        ..SOUND
+    },
     // The first read fails.
     Faulty {
+        name: "the first read fails",
         source: 1,
         status: 3,
         printed: b"refused input\n",
@@ -192,6 +242,7 @@ const FAULTY: [Faulty; 11] = [
         ..SOUND
     },
     Faulty {
+        name: "the second write fails",
         sink: 2,
         status: 4,
         printed: b"0 none\n",
@@ -199,18 +250,21 @@ const FAULTY: [Faulty; 11] = [
     },
     // The sink takes nothing of the first reply, though its put was done.
     Faulty {
+        name: "the sink takes nothing of the first reply",
         room: 0,
         status: 4,
         printed: b"",
         ..SOUND
     },
     Faulty {
+        name: "the sink has room for three bytes",
         room: 3,
         status: 4,
         printed: b"0 n",
         ..SOUND
     },
     Faulty {
+        name: "the folder fails",
         folder: 1,
         status: 5,
         printed: b"refused disk\n",
@@ -218,6 +272,7 @@ const FAULTY: [Faulty; 11] = [
         ..SOUND
     },
     Faulty {
+        name: "the port fails from its first call",
         port: 1,
         status: 5,
         printed: b"refused disk\n",
@@ -225,6 +280,7 @@ const FAULTY: [Faulty; 11] = [
         ..SOUND
     },
     Faulty {
+        name: "the port fails in its append",
         port: 2,
         status: 5,
         printed: b"refused disk\n",
@@ -232,6 +288,7 @@ const FAULTY: [Faulty; 11] = [
         ..SOUND
     },
     Faulty {
+        name: "the port fails in its directory sync",
         port: 4,
         status: 5,
         printed: b"0 none\nrefused disk\n",
@@ -239,6 +296,7 @@ const FAULTY: [Faulty; 11] = [
     },
     // The disk fails, and then the sink before the last line is whole.
     Faulty {
+        name: "the port fails, and then the sink",
         port: 4,
         room: 10,
         status: 4,
@@ -262,10 +320,11 @@ fn check_faulty(rt: &impl Abort, alloc: Global, run: &Faulty) -> Result<(), Fail
     let input = MemSource::in_steps(script, [run.source].to_vec(alloc)?, 1);
     let out = MemSink::in_steps(alloc, run.room, [run.sink].to_vec(alloc)?, run.most)?;
     let outcome = run_over(rt, alloc, "play", plans, input, out)?;
-    outcome.expect(rt, run.status, run.printed);
+    outcome.expect(rt, run.name, run.status, run.printed);
     let stored = outcome.stored();
-    assert_eq!(rt; stored.map(|bytes| bytes.len()), run.stored);
-    assert!(rt; RECORD.starts_with(stored.unwrap_or(b"")));
+    let name = run.name;
+    assert_eq!(rt; stored.map(|bytes| bytes.len()), run.stored, "{name}");
+    assert!(rt; RECORD.starts_with(stored.unwrap_or(b"")), "{name}");
     Ok(())
 }
 
@@ -286,10 +345,12 @@ fn a_failed_directory_sync_is_no_sync(rt: HostRuntime) -> Result<(), Fail> {
     let input = MemSource::new(b"0 put 5 k1 v1\n0 sync\n".to_vec(alloc)?, Vec::new(alloc));
     let out = MemSink::new(alloc, 100, Vec::new(alloc))?;
     let outcome = run_over(&rt, alloc, "play", plans, input, out)?;
-    outcome.expect(&rt, 5, b"0 none\nrefused disk\n");
+    let name = "a failed directory sync";
+    outcome.expect(&rt, name, 5, b"0 none\nrefused disk\n");
     assert_eq!(&rt; outcome.stored(), Some(RECORD));
     outcome.expect_calls(
         &rt,
+        name,
         &[Call::SyncNames, Call::Names],
         &[Call::Create, Call::Append, Call::SyncFile, Call::SyncNames],
     );
@@ -300,6 +361,7 @@ fn a_failed_directory_sync_is_no_sync(rt: HostRuntime) -> Result<(), Fail> {
 /// so many times, and no more. What is printed, and which calls the folder's root was asked for.
 #[derive(Clone, Copy)]
 struct Long {
+    name: &'static str,
     text: &'static [u8],
     byte: u8,
     times: usize,
@@ -311,6 +373,7 @@ struct Long {
 const LONG: [Long; 4] = [
     // A value of the greatest length is none too long: the disk is asked.
     Long {
+        name: "a value of the greatest length",
         text: b"0 put 5 k1 v1\n0 put 5 k2 ",
         byte: b'v',
         times: 1_048_576,
@@ -320,6 +383,7 @@ const LONG: [Long; 4] = [
     },
     // A value of one letter more, in the second line: the first line is not played either.
     Long {
+        name: "a value of one letter more",
         text: b"0 put 5 k1 v1\n0 put 5 k2 ",
         byte: b'v',
         times: 1_048_577,
@@ -329,6 +393,7 @@ const LONG: [Long; 4] = [
     },
     // As many bytes as a script may have are read, and their first line is refused.
     Long {
+        name: "a script of the greatest length",
         text: b"",
         byte: b'\n',
         times: 33_554_432,
@@ -338,6 +403,7 @@ const LONG: [Long; 4] = [
     },
     // One byte more, and no line is looked at.
     Long {
+        name: "a script of one byte more",
         text: b"",
         byte: b'\n',
         times: 33_554_433,
@@ -355,9 +421,10 @@ fn check_long(rt: &impl Abort, alloc: Global, run: &Long) -> Result<(), Fail> {
     let input = MemSource::new(script, Vec::new(alloc));
     let out = MemSink::new(alloc, 100, Vec::new(alloc))?;
     let outcome = run_over(rt, alloc, "play", plans, input, out)?;
-    outcome.expect(rt, run.status, run.printed);
-    assert!(rt; outcome.stored().is_none());
-    outcome.expect_calls(rt, run.calls, &[]);
+    outcome.expect(rt, run.name, run.status, run.printed);
+    let name = run.name;
+    assert!(rt; outcome.stored().is_none(), "{name}");
+    outcome.expect_calls(rt, run.name, run.calls, &[]);
     Ok(())
 }
 

@@ -9,6 +9,7 @@ mod sink_of_std;
 mod source;
 mod source_in_memory;
 mod source_of_std;
+mod unfailing;
 
 pub use failure::Failed;
 pub use sink::Sink;
@@ -17,6 +18,7 @@ pub use sink_of_std::StdSink;
 pub use source::Source;
 pub use source_in_memory::MemSource;
 pub use source_of_std::StdSource;
+pub use unfailing::{EndlessSource, NullSink};
 
 #[cfg(test)]
 mod tests;

@@ -1,8 +1,8 @@
 //! The calls at which a source or a sink in memory fails.
 
-ghost use Rattle.std.specs.Prelude.{◌≡◌, ◌==◌, ◌+◌, ◌-◌, ◌^◌, ◌≤◌, min, MatchBool};
-ghost use Rattle.std.specs.List.{list_any};
-ghost use Rattle.hr_base.specs.Counts.{Rose};
+ghost use Rattle.std.specs.Prelude.{◌≡◌, true};
+ghost use Rattle.hr_edges.specs.Edges.{CountsFailure};
+ghost use Rattle.hr_edges.specs.Schedules.{after_call, is_due, one_more};
 
 /// Which calls are to fail, counted from 1, and how many calls and faults there were.
 #[derive(Drop)]
@@ -26,11 +26,9 @@ impl Schedule {
 
     /// Counts a call, and says whether it fails. A failure is counted too.
     pub fn fails_now(&mut self) -> bool
-        ensures calls { self.new.calls ≡ min (self.old.calls + 1) (2 ^ 64 - 1) }
-        ensures listed { result ≡ list_any (λ call. call == self.new.calls) self.old.fails.items }
-        ensures count { MatchBool result (Rose self.old.count self.new.count) (self.new.count ≡ self.old.count) }
-        ensures kept { self.old.count ≤ self.new.count }
-        ensures fails { self.new.fails ≡ self.old.fails }
+        ensures due { result ≡ is_due self.old }
+        ensures after { self.new ≡ after_call result self.old }
+        ensures counted { CountsFailure result self.old.count self.new.count }
     {
         self.calls = self.calls.saturating_add(1);
         let failed = self.fails.contains(&self.calls);
@@ -42,8 +40,8 @@ impl Schedule {
 
     /// Counts a fault.
     pub fn raise(&mut self)
-        ensures raised { self.new ≡ record self.old { count = min (self.old.count + 1) (2 ^ 64 - 1) } }
-        ensures kept { self.old.count ≤ self.new.count }
+        ensures raised { self.new ≡ record self.old { count = one_more self.old.count } }
+        ensures counted { CountsFailure true self.old.count self.new.count }
     {
         self.count = self.count.saturating_add(1);
     }

@@ -1,6 +1,6 @@
 //! A sink of bytes in memory.
 
-ghost use Rattle.std.specs.Prelude.{◌≡◌, ◌<◌, ◌≤◌, ◌-◌, Some, [], IfOk, OnErr, is_err, length, vec_len, vec_capacity};
+ghost use Rattle.std.specs.Prelude.{◌≡◌, ◌<◌, ◌≤◌, ◌-◌, ◌++◌, Some, [], IfOk, OnErr, is_err, length, take, vec_len, vec_capacity};
 
 use crate::failure::Failed;
 use crate::schedule::Schedule;
@@ -62,9 +62,8 @@ impl MemSink {
 }
 
 impl Sink for MemSink {
-    ghost use Rattle.hr_base.specs.Counts.{Rose};
-    ghost use Rattle.hr_edges.specs.Edges.{Takes, TakesSome};
-    ghost use Rattle.hr_edges.specs.Schedules.{is_due, least};
+    ghost use Rattle.hr_edges.specs.Edges.{CountsFailure, is_failed_write, Takes, TakesFront};
+    ghost use Rattle.hr_edges.specs.Schedules.{after_call, is_due, least};
 
     ghost taken = { λ sink. Some sink.bytes.items };
 
@@ -74,15 +73,17 @@ impl Sink for MemSink {
         ensures due { is_err result ≡ is_due self.old.schedule }
         ensures amount { IfOk result (λ n. n ≡ least (length piece.now)
             (self.old.room - vec_len self.old.bytes) self.old.most) }
-        ensures appended { IfOk result
-            (λ n. Takes self.old.bytes.items (Some self.new.bytes.items) n piece.now) }
-        ensures refused { OnErr result
-            (TakesSome self.old.bytes.items (Some self.new.bytes.items) piece.now) }
+        ensures schedule { self.new.schedule
+            ≡ after_call (is_failed_write result piece.now) self.old.schedule }
+        ensures room { self.new.room ≡ self.old.room }
+        ensures most { self.new.most ≡ self.old.most }
+
         ensures bound { IfOk result (λ n. n ≤ length piece.now) }
-        ensures full { IfOk result (λ n. n ≡ 0 → 0 < length piece.now
-            → Rose self.old.schedule.count self.new.schedule.count) }
-        ensures fault { OnErr result (Rose self.old.schedule.count self.new.schedule.count) }
-        ensures kept { self.old.schedule.count ≤ self.new.schedule.count }
+        ensures appended { IfOk result
+            (λ n. self.new.bytes.items ≡ self.old.bytes.items ++ take n piece.now) }
+        ensures refused { OnErr result (self.new.bytes.items ≡ self.old.bytes.items) }
+        ensures counted { CountsFailure (is_failed_write result piece.now)
+            self.old.schedule.count self.new.schedule.count }
     {
         if self.schedule.fails_now() {
             return Err(Failed);

@@ -1,8 +1,8 @@
 //! A writer of the standard library as a sink.
 
-ghost use Rattle.std.specs.Prelude.{◌≡◌, ◌<◌, ◌≤◌, None, IfOk, OnErr, length};
+ghost use Rattle.std.specs.Prelude.{◌≡◌, ◌≤◌, None, IfOk, length};
 ghost use Rattle.std.specs.Io.KnownBytes.{WriteAppends};
-ghost use Rattle.hr_base.specs.Counts.{Rose};
+ghost use Rattle.hr_edges.specs.Edges.{CountsFailure, is_failed_write};
 
 use crate::failure::Failed;
 use crate::sink::Sink;
@@ -34,10 +34,8 @@ impl<W: Write> Sink for StdSink<W> {
         ensures passed { WriteAppends (W.contents self.old.inner) (W.contents self.new.inner)
             result piece.now }
         ensures bound { IfOk result (λ n. n ≤ length piece.now) }
-        ensures full { IfOk result
-            (λ n. n ≡ 0 → 0 < length piece.now → Rose self.old.count self.new.count) }
-        ensures fault { OnErr result (Rose self.old.count self.new.count) }
-        ensures kept { self.old.count ≤ self.new.count }
+        ensures counted { CountsFailure (is_failed_write result piece.now)
+            self.old.count self.new.count }
     {
         match self.inner.write(piece) {
             Ok(length) => {

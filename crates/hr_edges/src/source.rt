@@ -4,9 +4,8 @@ use crate::failure::Failed;
 
 /// Where the bytes of a session come from. Clauses on bytes hold where the source tells them.
 pub trait Source {
-    ghost use Rattle.std.specs.Prelude.{◌≡◌, ◌<◌, ◌≤◌, ℕ, [], List, Option, None, IfSome, IfNone, IfOk, OnErr, length};
-    ghost use Rattle.hr_base.specs.Counts.{Rose};
-    ghost use Rattle.hr_edges.specs.Edges.{Gives, Keeps};
+    ghost use Rattle.std.specs.Prelude.{◌≡◌, ◌<◌, ◌≤◌, ℕ, [], List, Option, IfSome, IfOk, OnErr, is_err, length};
+    ghost use Rattle.hr_edges.specs.Edges.{CountsFailure, GivesFirst, LeavesRest, StaysUntold};
 
     /// The bytes that are left, where that is told.
     ghost left: { Self → Option (List ℕ) };
@@ -18,13 +17,13 @@ pub trait Source {
     fn read(&mut self, into: &mut [u8]) -> Result<usize, Failed>
         ensures bound { IfOk result (λ n. n ≤ length into.new) }
         ensures given { IfSome (left self.old)
-            (λ bytes. IfOk result (λ n. Gives bytes (left self.new) n into.new)) }
+            (λ bytes. IfOk result (λ n. GivesFirst bytes (left self.new) n into.new)) }
         ensures end { IfSome (left self.old)
             (λ bytes. IfOk result (λ n. n ≡ 0 → 0 < length into.new → bytes ≡ [])) }
-        ensures refused { IfSome (left self.old) (λ bytes. OnErr result (Keeps bytes (left self.new))) }
-        ensures untold { IfNone (left self.old) (left self.new ≡ None) }
-        ensures fault { OnErr result (Rose (count self.old) (count self.new)) }
-        ensures kept { count self.old ≤ count self.new };
+        ensures refused { IfSome (left self.old)
+            (λ bytes. OnErr result (LeavesRest bytes (left self.new))) }
+        ensures untold { StaysUntold (left self.old) (left self.new) }
+        ensures counted { CountsFailure (is_err result) (count self.old) (count self.new) };
 
     /// How often it failed, or the greatest number.
     fn faults(&self) -> u64

@@ -46,9 +46,8 @@ impl MemSource {
 }
 
 impl Source for MemSource {
-    ghost use Rattle.hr_base.specs.Counts.{Rose};
-    ghost use Rattle.hr_edges.specs.Edges.{Gives, Keeps};
-    ghost use Rattle.hr_edges.specs.Schedules.{is_due, least};
+    ghost use Rattle.hr_edges.specs.Edges.{CountsFailure, GivesFirst, LeavesRest};
+    ghost use Rattle.hr_edges.specs.Schedules.{after_call, is_due, least};
 
     ghost left = { λ source. Some (drop source.at source.bytes.items) };
 
@@ -58,15 +57,20 @@ impl Source for MemSource {
         ensures due { is_err result ≡ is_due self.old.schedule }
         ensures amount { IfOk result (λ n. n ≡ least (length into.new)
             (length (drop self.old.at self.old.bytes.items)) self.old.most) }
-        ensures given { IfOk result (λ n. Gives (drop self.old.at self.old.bytes.items)
-            (Some (drop self.new.at self.new.bytes.items)) n into.new) }
-        ensures refused { OnErr result (Keeps (drop self.old.at self.old.bytes.items)
-            (Some (drop self.new.at self.new.bytes.items))) }
+        ensures schedule { self.new.schedule ≡ after_call (is_err result) self.old.schedule }
+        ensures most { self.new.most ≡ self.old.most }
+        ensures others { IfOk result (λ n. drop n into.new ≡ drop n into.old) }
+        ensures buffer { OnErr result (into.new ≡ into.old) }
+
         ensures bound { IfOk result (λ n. n ≤ length into.new) }
+        ensures given { IfOk result (λ n. GivesFirst (drop self.old.at self.old.bytes.items)
+            (Some (drop self.new.at self.new.bytes.items)) n into.new) }
+        ensures refused { OnErr result (drop self.new.at self.new.bytes.items
+            ≡ drop self.old.at self.old.bytes.items) }
         ensures end { IfOk result
             (λ n. n ≡ 0 → 0 < length into.new → drop self.old.at self.old.bytes.items ≡ []) }
-        ensures fault { OnErr result (Rose self.old.schedule.count self.new.schedule.count) }
-        ensures kept { self.old.schedule.count ≤ self.new.schedule.count }
+        ensures counted { CountsFailure (is_err result)
+            self.old.schedule.count self.new.schedule.count }
     {
         if self.schedule.fails_now() {
             return Err(Failed);

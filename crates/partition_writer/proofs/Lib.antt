@@ -1,6 +1,6 @@
-mod CommandLaws
-mod CrashLaws
-mod DecidingLaws
-mod RestartLaws
-mod StandingLaws
+mod CloseLaws
+mod LimitLaws
+mod NumberLaws
+mod OneChunkLaws
+pub mod StandingLaws
 mod StoredLaws

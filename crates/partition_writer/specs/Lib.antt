@@ -1,9 +1,7 @@
-pub mod Commands
-pub mod Accounts
-pub mod Restarts
-pub mod Chunks
-pub mod Deciding
 pub mod Stored
-pub mod Crash
-pub mod Puts
+pub mod Disk
+pub mod ChunkViews
+pub mod Refusals
+pub mod OneChunk
 pub mod Standing
+pub mod WriterViews

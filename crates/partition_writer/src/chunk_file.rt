@@ -1,10 +1,10 @@
 //! The one chunk that a writer appends to, with its port.
 
-ghost use Rattle.std.specs.Prelude.{◌≡◌, ◌≤◌, ◌++◌, ℕ, Bool, true, false, List, [], length, Option, Some, None, is_none, IsErrOf, OnOk, OnErr};
+ghost use Rattle.std.specs.Prelude.{◌≡◌, true, false, Some, is_none};
 ghost use Rattle.dir_files.specs.declared.folder.FolderRefusal.{FolderRefusal};
-ghost use Rattle.hr_base.specs.Counts.{Rose};
 ghost use Rattle.dir_files.specs.Ports.{IsEmptyPort};
-ghost use Rattle.partition_writer.specs.Stored.{first_chunk, is_free, handle_of, Stores, IsDurable, IsClosed};
+ghost use Rattle.dir_files.specs.Ports.{is_free};
+ghost use Rattle.partition_writer.specs.Stored.{first_chunk};
 
 use dir_files::{Folder, FolderRefusal};
 use hr_base::{ChunkName, ChunkNo, Kind, Partition};
@@ -48,15 +48,23 @@ pub struct ChunkFile<F: Folder> {
     pub unsynced: bool,
     /// The port's count of faults when the disk refused a call; from then on none is made.
     pub halted: Option<u64>,
-    ghost free: { F.tells ≡ true → is_none file ≡ true → is_none halted ≡ true → is_free (F.port port) first_chunk ≡ true },
+    ghost free: { F.tells ≡ true → is_none file ≡ true → is_none halted ≡ true
+        → is_free (F.port port) first_chunk ≡ true },
+    ghost flags: { is_none file ≡ true → (fresh ≡ false) × (unsynced ≡ false) },
 }
 
 impl<F: Folder> ChunkFile<F> {
+    ghost use Rattle.std.specs.Prelude.{◌≤◌, ◌++◌, ℕ, Bool, List, [], length, Option, None, IsErrOf, IsOk, OnOk, OnErr};
+    ghost use Rattle.partition_writer.specs.Disk.{HaltsAtFault};
+    ghost use Rattle.partition_writer.specs.Stored.{Stores, IsIdle, KeepsStored, StoresMore, StoresFront, StoresDurably, ClosesStored};
+    ghost use Rattle.partition_writer.specs.ChunkViews.{chunk_state, chunk_disk};
+
     /// No file yet.
     pub fn new(port: F) -> ChunkFile<F>
         requires { F.tells ≡ true → IsEmptyPort (F.port port) }
-        ensures stores { F.tells ≡ true → Stores (F.port result.port) (handle_of F.File.name F.state result.file) result.fresh result.unsynced 0 [] [] }
+        ensures stores { F.tells ≡ true → Stores (chunk_state result) 0 [] [] }
         ensures same { result.port ≡ port }
+        ensures no_file { is_none result.file ≡ true }
         ensures running { result.halted ≡ None }
     {
         ChunkFile {
@@ -72,15 +80,14 @@ impl<F: Folder> ChunkFile<F> {
     fn open(&mut self) -> Result<(), FolderRefusal>
         requires none { is_none self.old.file ≡ true }
         requires running { is_none self.old.halted ≡ true }
-        ensures stores { F.tells ≡ true → (bytes : List ℕ) → Stores (F.port self.old.port) (handle_of F.File.name F.state self.old.file) self.old.fresh self.old.unsynced 0 bytes bytes
-            → Stores (F.port self.new.port) (handle_of F.File.name F.state self.new.file) self.new.fresh self.new.unsynced 0 bytes bytes }
+        ensures stores { F.tells ≡ true → (bytes : List ℕ)
+            → Stores (chunk_state self.old) 0 bytes bytes
+            → Stores (chunk_state self.new) 0 bytes bytes }
         ensures there { OnOk result (is_none self.new.file ≡ false) }
         ensures not_there { OnErr result (is_none self.new.file ≡ true) }
-        ensures ok { OnOk result (self.new.halted ≡ self.old.halted) }
-        ensures memory { IsErrOf result FolderRefusal.Memory → self.new.halted ≡ self.old.halted }
-        ensures fault { IsErrOf result FolderRefusal.Fault → (self.new.halted ≡ Some (F.count self.new.port)) × Rose (F.count self.old.port) (F.count self.new.port) }
-        ensures kept { F.count self.old.port ≤ F.count self.new.port }
-        ensures stays_sound { F.sound self.old.port ≡ true → (F.sound self.new.port ≡ true) × (F.count self.new.port ≡ 0) }
+        ensures unsynced { self.new.unsynced ≡ self.old.unsynced }
+        ensures disk { HaltsAtFault FolderRefusal.Memory FolderRefusal.Fault result
+            (chunk_disk self.old) (chunk_disk self.new) }
     {
         match self.port.create(FIRST) {
             Ok(file) => {
@@ -100,21 +107,17 @@ impl<F: Folder> ChunkFile<F> {
     /// Appends bytes to the file, which is created first where there is none. `Memory` may leave an empty file.
     pub fn append(&mut self, piece: &[u8]) -> Result<(), FolderRefusal>
         requires running { is_none self.old.halted ≡ true }
-        ensures stored { F.tells ≡ true → OnOk result ((durable : ℕ) (bytes : List ℕ)
-            → Stores (F.port self.old.port) (handle_of F.File.name F.state self.old.file) self.old.fresh self.old.unsynced durable bytes []
-            → Stores (F.port self.new.port) (handle_of F.File.name F.state self.new.file) self.new.fresh self.new.unsynced durable (bytes ++ piece.now) []) }
-        ensures failed { F.tells ≡ true → IsErrOf result FolderRefusal.Fault → (durable : ℕ) (bytes : List ℕ)
-            → Stores (F.port self.old.port) (handle_of F.File.name F.state self.old.file) self.old.fresh self.old.unsynced durable bytes []
-            → (missing : List ℕ) × Stores (F.port self.new.port) (handle_of F.File.name F.state self.new.file) self.new.fresh self.new.unsynced durable (bytes ++ piece.now) missing }
-        ensures unchanged { F.tells ≡ true → IsErrOf result FolderRefusal.Memory → (durable : ℕ) (bytes : List ℕ)
-            → Stores (F.port self.old.port) (handle_of F.File.name F.state self.old.file) self.old.fresh self.old.unsynced durable bytes []
-            → Stores (F.port self.new.port) (handle_of F.File.name F.state self.new.file) self.new.fresh self.new.unsynced durable bytes [] }
-        ensures ok { OnOk result (self.new.halted ≡ self.old.halted) }
+        ensures stored { F.tells ≡ true
+            → OnOk result (StoresMore piece.now (chunk_state self.old) (chunk_state self.new)) }
+        ensures failed { F.tells ≡ true → IsErrOf result FolderRefusal.Fault
+            → StoresFront piece.now (chunk_state self.old) (chunk_state self.new) }
+        ensures unchanged { F.tells ≡ true → IsErrOf result FolderRefusal.Memory
+            → KeepsStored (chunk_state self.old) (chunk_state self.new) }
+        ensures created { is_none self.old.file ≡ false → self.new.fresh ≡ self.old.fresh }
+        ensures idle { IsErrOf result FolderRefusal.Memory → self.new.unsynced ≡ self.old.unsynced }
         ensures unsynced { OnOk result (self.new.unsynced ≡ true) }
-        ensures memory { IsErrOf result FolderRefusal.Memory → self.new.halted ≡ self.old.halted }
-        ensures fault { IsErrOf result FolderRefusal.Fault → (self.new.halted ≡ Some (F.count self.new.port)) × Rose (F.count self.old.port) (F.count self.new.port) }
-        ensures kept { F.count self.old.port ≤ F.count self.new.port }
-        ensures stays_sound { F.sound self.old.port ≡ true → (F.sound self.new.port ≡ true) × (F.count self.new.port ≡ 0) }
+        ensures disk { HaltsAtFault FolderRefusal.Memory FolderRefusal.Fault result
+            (chunk_disk self.old) (chunk_disk self.new) }
     {
         if self.file.is_none() {
             self.open()?;
@@ -126,21 +129,17 @@ impl<F: Folder> ChunkFile<F> {
     fn append_to_file(&mut self, piece: &[u8]) -> Result<(), FolderRefusal>
         requires there { is_none self.old.file ≡ false }
         requires running { is_none self.old.halted ≡ true }
-        ensures stored { F.tells ≡ true → OnOk result ((durable : ℕ) (bytes : List ℕ)
-            → Stores (F.port self.old.port) (handle_of F.File.name F.state self.old.file) self.old.fresh self.old.unsynced durable bytes []
-            → Stores (F.port self.new.port) (handle_of F.File.name F.state self.new.file) self.new.fresh self.new.unsynced durable (bytes ++ piece.now) []) }
-        ensures failed { F.tells ≡ true → IsErrOf result FolderRefusal.Fault → (durable : ℕ) (bytes : List ℕ)
-            → Stores (F.port self.old.port) (handle_of F.File.name F.state self.old.file) self.old.fresh self.old.unsynced durable bytes []
-            → (missing : List ℕ) × Stores (F.port self.new.port) (handle_of F.File.name F.state self.new.file) self.new.fresh self.new.unsynced durable (bytes ++ piece.now) missing }
-        ensures unchanged { F.tells ≡ true → IsErrOf result FolderRefusal.Memory → (durable : ℕ) (bytes : List ℕ)
-            → Stores (F.port self.old.port) (handle_of F.File.name F.state self.old.file) self.old.fresh self.old.unsynced durable bytes []
-            → Stores (F.port self.new.port) (handle_of F.File.name F.state self.new.file) self.new.fresh self.new.unsynced durable bytes [] }
-        ensures ok { OnOk result (self.new.halted ≡ self.old.halted) }
+        ensures stored { F.tells ≡ true
+            → OnOk result (StoresMore piece.now (chunk_state self.old) (chunk_state self.new)) }
+        ensures failed { F.tells ≡ true → IsErrOf result FolderRefusal.Fault
+            → StoresFront piece.now (chunk_state self.old) (chunk_state self.new) }
+        ensures unchanged { F.tells ≡ true → IsErrOf result FolderRefusal.Memory
+            → KeepsStored (chunk_state self.old) (chunk_state self.new) }
+        ensures fresh { self.new.fresh ≡ self.old.fresh }
         ensures unsynced { OnOk result (self.new.unsynced ≡ true) }
-        ensures memory { IsErrOf result FolderRefusal.Memory → self.new.halted ≡ self.old.halted }
-        ensures fault { IsErrOf result FolderRefusal.Fault → (self.new.halted ≡ Some (F.count self.new.port)) × Rose (F.count self.old.port) (F.count self.new.port) }
-        ensures kept { F.count self.old.port ≤ F.count self.new.port }
-        ensures stays_sound { F.sound self.old.port ≡ true → (F.sound self.new.port ≡ true) × (F.count self.new.port ≡ 0) }
+        ensures idle { IsErrOf result FolderRefusal.Memory → self.new.unsynced ≡ self.old.unsynced }
+        ensures disk { HaltsAtFault FolderRefusal.Memory FolderRefusal.Fault result
+            (chunk_disk self.old) (chunk_disk self.new) }
     {
         match &mut self.file {
             Some(file) => match self.port.append(file, piece) {
@@ -158,21 +157,18 @@ impl<F: Folder> ChunkFile<F> {
         }
     }
 
-    /// Makes all bytes durable, and then the file's name. It makes no call of the folder where nothing is to be made durable.
+    /// Makes all bytes durable, and then the file's name.
     pub fn sync(&mut self) -> Result<(), FolderRefusal>
         requires running { is_none self.old.halted ≡ true }
-        ensures durable { F.tells ≡ true → OnOk result ((durable : ℕ) (bytes : List ℕ)
-            → Stores (F.port self.old.port) (handle_of F.File.name F.state self.old.file) self.old.fresh self.old.unsynced durable bytes []
-            → Stores (F.port self.new.port) (handle_of F.File.name F.state self.new.file) self.new.fresh self.new.unsynced (length bytes) bytes []
-            × IsDurable (handle_of F.File.name F.state self.new.file)) }
-        ensures refused { F.tells ≡ true → OnErr result ((durable : ℕ) (bytes : List ℕ)
-            → Stores (F.port self.old.port) (handle_of F.File.name F.state self.old.file) self.old.fresh self.old.unsynced durable bytes []
-            → Stores (F.port self.new.port) (handle_of F.File.name F.state self.new.file) self.new.fresh self.new.unsynced durable bytes []) }
-        ensures ok { OnOk result (self.new.halted ≡ self.old.halted) }
-        ensures memory { IsErrOf result FolderRefusal.Memory → self.new.halted ≡ self.old.halted }
-        ensures fault { IsErrOf result FolderRefusal.Fault → (self.new.halted ≡ Some (F.count self.new.port)) × Rose (F.count self.old.port) (F.count self.new.port) }
-        ensures kept { F.count self.old.port ≤ F.count self.new.port }
-        ensures stays_sound { F.sound self.old.port ≡ true → (F.sound self.new.port ≡ true) × (F.count self.new.port ≡ 0) }
+        ensures durable { F.tells ≡ true
+            → OnOk result (StoresDurably (chunk_state self.old) (chunk_state self.new)) }
+        ensures refused { F.tells ≡ true
+            → OnErr result (KeepsStored (chunk_state self.old) (chunk_state self.new)) }
+        // It makes no call of the folder where nothing is to be made durable, and leaves nothing so.
+        ensures idle { IsIdle (chunk_state self.old) → IsOk result × (self.new ≡ self.old) }
+        ensures settled { OnOk result (IsIdle (chunk_state self.new)) }
+        ensures disk { HaltsAtFault FolderRefusal.Memory FolderRefusal.Fault result
+            (chunk_disk self.old) (chunk_disk self.new) }
     {
         self.sync_bytes()?;
         self.sync_name()
@@ -180,11 +176,11 @@ impl<F: Folder> ChunkFile<F> {
 
     /// Gives the file back, and hands out the port. It takes no memory.
     pub fn close(self) -> F
-        ensures closed { F.tells ≡ true → (durable : ℕ) (bytes missing : List ℕ)
-            → Stores (F.port self.port) (handle_of F.File.name F.state self.file) self.fresh self.unsynced durable bytes missing
-            → IsClosed (F.port result) durable bytes missing }
+        ensures closed { F.tells ≡ true → ClosesStored (chunk_state self) (F.port result) }
+        ensures no_file { is_none self.file ≡ true → result ≡ self.port }
         ensures kept { F.count self.port ≤ F.count result }
-        ensures stays_sound { F.sound self.port ≡ true → (F.sound result ≡ true) × (F.count result ≡ 0) }
+        ensures stays_sound { F.sound self.port ≡ true
+            → (F.sound result ≡ true) × (F.count result ≡ 0) }
     {
         let ChunkFile {
             mut port,
@@ -205,65 +201,56 @@ impl<F: Folder> ChunkFile<F> {
     /// Makes the bytes durable, where some are not.
     fn sync_bytes(&mut self) -> Result<(), FolderRefusal>
         requires running { is_none self.old.halted ≡ true }
-        ensures synced { OnOk result (is_none self.new.file ≡ false → self.new.unsynced ≡ false) }
-        ensures stored { F.tells ≡ true → (durable : ℕ) (bytes : List ℕ)
-            → Stores (F.port self.old.port) (handle_of F.File.name F.state self.old.file) self.old.fresh self.old.unsynced durable bytes []
-            → Stores (F.port self.new.port) (handle_of F.File.name F.state self.new.file) self.new.fresh self.new.unsynced durable bytes [] }
-        ensures ok { OnOk result (self.new.halted ≡ self.old.halted) }
-        ensures memory { IsErrOf result FolderRefusal.Memory → self.new.halted ≡ self.old.halted }
-        ensures fault { IsErrOf result FolderRefusal.Fault → (self.new.halted ≡ Some (F.count self.new.port)) × Rose (F.count self.old.port) (F.count self.new.port) }
-        ensures kept { F.count self.old.port ≤ F.count self.new.port }
-        ensures stays_sound { F.sound self.old.port ≡ true → (F.sound self.new.port ≡ true) × (F.count self.new.port ≡ 0) }
+        ensures synced { OnOk result (self.new.unsynced ≡ false) }
+        ensures stored { F.tells ≡ true → KeepsStored (chunk_state self.old) (chunk_state self.new) }
+        ensures idle { self.old.unsynced ≡ false → IsOk result × (self.new ≡ self.old) }
+        ensures disk { HaltsAtFault FolderRefusal.Memory FolderRefusal.Fault result
+            (chunk_disk self.old) (chunk_disk self.new) }
     {
-        let Some(file) = &mut self.file else {
-            return Ok(());
-        };
         if !self.unsynced {
             return Ok(());
         }
-        match self.port.sync_file(file) {
-            Ok(()) => {
-                self.unsynced = false;
-                Ok(())
-            }
-            Err(refusal) => {
-                self.halted = halted_after(&self.port, refusal, self.halted);
-                Err(refusal)
-            }
+        match &mut self.file {
+            Some(file) => match self.port.sync_file(file) {
+                Ok(()) => {
+                    self.unsynced = false;
+                    Ok(())
+                }
+                Err(refusal) => {
+                    self.halted = halted_after(&self.port, refusal, self.halted);
+                    Err(refusal)
+                }
+            },
+            None => unreachable!(),
         }
     }
 
     /// Makes the file's name durable, where it was created since the last directory sync.
     fn sync_name(&mut self) -> Result<(), FolderRefusal>
         requires running { is_none self.old.halted ≡ true }
-        ensures synced { OnOk result (is_none self.new.file ≡ false → self.new.fresh ≡ false) }
+        ensures synced { OnOk result (self.new.fresh ≡ false) }
         ensures unsynced { self.new.unsynced ≡ self.old.unsynced }
-        ensures same { is_none self.new.file ≡ is_none self.old.file }
-        ensures stored { F.tells ≡ true → (durable : ℕ) (bytes : List ℕ)
-            → Stores (F.port self.old.port) (handle_of F.File.name F.state self.old.file) self.old.fresh self.old.unsynced durable bytes []
-            → Stores (F.port self.new.port) (handle_of F.File.name F.state self.new.file) self.new.fresh self.new.unsynced durable bytes [] }
-        ensures ok { OnOk result (self.new.halted ≡ self.old.halted) }
-        ensures memory { IsErrOf result FolderRefusal.Memory → self.new.halted ≡ self.old.halted }
-        ensures fault { IsErrOf result FolderRefusal.Fault → (self.new.halted ≡ Some (F.count self.new.port)) × Rose (F.count self.old.port) (F.count self.new.port) }
-        ensures kept { F.count self.old.port ≤ F.count self.new.port }
-        ensures stays_sound { F.sound self.old.port ≡ true → (F.sound self.new.port ≡ true) × (F.count self.new.port ≡ 0) }
+        ensures stored { F.tells ≡ true → KeepsStored (chunk_state self.old) (chunk_state self.new) }
+        ensures idle { self.old.fresh ≡ false → IsOk result × (self.new ≡ self.old) }
+        ensures disk { HaltsAtFault FolderRefusal.Memory FolderRefusal.Fault result
+            (chunk_disk self.old) (chunk_disk self.new) }
     {
-        let Some(file) = &mut self.file else {
-            return Ok(());
-        };
         if !self.fresh {
             return Ok(());
         }
-        match self.port.sync_names() {
-            Ok(()) => {
-                self.port.mark(file);
-                self.fresh = false;
-                Ok(())
-            }
-            Err(refusal) => {
-                self.halted = halted_after(&self.port, refusal, self.halted);
-                Err(refusal)
-            }
+        match &mut self.file {
+            Some(file) => match self.port.sync_names() {
+                Ok(()) => {
+                    self.port.mark(file);
+                    self.fresh = false;
+                    Ok(())
+                }
+                Err(refusal) => {
+                    self.halted = halted_after(&self.port, refusal, self.halted);
+                    Err(refusal)
+                }
+            },
+            None => unreachable!(),
         }
     }
 }

@@ -6,10 +6,7 @@ mod laws;
 mod refusal;
 mod writer;
 
-pub use laws::{
-    empty_tail_fits_itself, last_decides, maps_after_commands, one_chunk_survives, one_restart,
-    state_of_own_commands,
-};
+pub use laws::{one_chunk_survives, only_a_lost_record_lacks_bytes};
 pub use refusal::WriteRefusal;
 pub use writer::Writer;
 

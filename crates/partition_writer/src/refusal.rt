@@ -3,6 +3,7 @@
 ghost use Rattle.std.specs.Prelude.{◌≡◌};
 ghost use Rattle.partition_writer.specs.declared.refusal.WriteRefusal.TheVariants.{Memory as OutOfMemory};
 
+use dir_files::FolderRefusal;
 use hr_base::Memory;
 use std::alloc::{AllocError, AllocFailed};
 use thiserror::Error;
@@ -47,5 +48,18 @@ impl From<Memory> for WriteRefusal {
 
     fn from(_refused: Memory) -> WriteRefusal {
         WriteRefusal::Memory
+    }
+}
+
+impl From<FolderRefusal> for WriteRefusal {
+    ghost use Rattle.partition_writer.specs.Refusals.{write_refusal};
+
+    ghost from_gives = { λ refusal e. e ≡ write_refusal refusal };
+
+    fn from(refusal: FolderRefusal) -> WriteRefusal {
+        match refusal {
+            FolderRefusal::Memory => WriteRefusal::Memory,
+            FolderRefusal::Fault => WriteRefusal::DiskFault,
+        }
     }
 }

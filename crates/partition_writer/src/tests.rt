@@ -6,7 +6,7 @@ ghost use Rattle.dir_files.specs.Ports.{IsEmptyPort};
 use super::{WriteRefusal, Writer};
 use bytes::Bytes;
 use dir_files::{FaultPlan, Folder, MemFolder};
-use hr_base::{ChunkName, ChunkNo, Kind, Memory, Partition, Seq};
+use hr_base::{ChunkName, ChunkNo, Kind, MAX_KEY_LEN, MAX_VALUE_LEN, Memory, Partition, Seq};
 use std::alloc::Global;
 use std::process::Abort;
 use std::test::Fail;
@@ -20,6 +20,7 @@ const CHUNK: ChunkName = ChunkName {
 /// A put, what its key has before, and what stands in the file for it.
 #[derive(Clone, Copy)]
 struct Step {
+    name: &'static str,
     prefix: u64,
     key: &'static [u8],
     value: &'static [u8],
@@ -28,6 +29,7 @@ struct Step {
 }
 
 const FIRST: Step = Step {
+    name: "a first key",
     prefix: 5,
     key: b"k1",
     value: b"v1",
@@ -38,6 +40,7 @@ const FIRST: Step = Step {
 const STEPS: [Step; 3] = [
     FIRST,
     Step {
+        name: "an empty value for the same key",
         prefix: 5,
         key: b"k1",
         value: b"",
@@ -45,6 +48,7 @@ const STEPS: [Step; 3] = [
         spelled: b"\x00\x00\x00\x00\x00\x00\x00\x02\x00\x00\x00\x00\x00\x00\x00\x05\x00\x00\x00\x02\x00\x00\x00\x00k1",
     },
     Step {
+        name: "the same key under another prefix",
         prefix: 6,
         key: b"k1",
         value: b"w",
@@ -58,7 +62,7 @@ fn put(
     writer: &mut Writer<MemFolder>,
     step: &Step,
 ) -> Result<Option<Bytes>, WriteRefusal> {
-    let small = step.key.len() <= 65535 && step.value.len() <= 1048576;
+    let small = step.key.len() <= MAX_KEY_LEN && step.value.len() <= MAX_VALUE_LEN;
     assert!(rt; small);
     writer.put(step.prefix, step.key, step.value)
 }
@@ -70,7 +74,7 @@ fn sync(writer: &mut Writer<MemFolder>) -> Result<Seq, WriteRefusal> {
 /// Checks what the writer answers for the step's key.
 fn expect_value(rt: &impl Abort, writer: &Writer<MemFolder>, step: &Step) {
     let found = writer.get(step.prefix, step.key).map(|v| v.as_slice());
-    assert_eq!(rt; found, Some(step.value));
+    assert_eq!(rt; found, Some(step.value), "{}", step.name);
 }
 
 fn fork(root: &mut MemFolder) -> Result<MemFolder, Memory>
@@ -98,7 +102,12 @@ fn make_steps(
 ) -> Result<(), Fail> {
     for step in &STEPS {
         let before = put(rt, writer, step)?;
-        assert_eq!(rt; before.as_ref().map(|v| v.as_slice()), step.before);
+        assert_eq!(rt;
+            before.as_ref().map(|v| v.as_slice()),
+            step.before,
+            "{}",
+            step.name
+        );
         expect_value(rt, writer, step);
         spelled.extend_from_slice(step.spelled)?;
     }

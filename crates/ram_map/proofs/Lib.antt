@@ -1,1 +1,5 @@
 pub mod NestedLemmas
+pub mod FinMaps
+pub mod PrefixLemmas
+pub mod Triples
+pub mod EntryCounts

@@ -25,7 +25,7 @@ then_ties Less b = refl
 then_ties Equal b = refl
 then_ties Greater b = refl
 
-key_ties : (q : Key) (p : ℕ) (b : List ℕ) → is_key q (key_at p b) ≡ cond (nat_eq q.prefix p) (pointwise nat_eq q.bytes b) false
+pub key_ties : (q : Key) (p : ℕ) (b : List ℕ) → is_key q (key_at p b) ≡ cond (nat_eq q.prefix p) (pointwise nat_eq q.bytes b) false
 key_ties q p b = then_ties (nat_cmp q.prefix p) (slice_cmp nat_cmp q.bytes b) ∙ (λ i. cond (sym (unsigned_ties q.prefix p) i) (sym (texts_ties q.bytes b) i) false)
 
 -- the first that there is
@@ -33,7 +33,7 @@ abbrev pub first_of_two : {X : Type 0} → Option X → Option X → Option X
 first_of_two None o = o
 first_of_two (Some x) o = Some x
 
-first_of_two-none : {X : Type 0} (o : Option X) → first_of_two o None ≡ o
+pub first_of_two-none : {X : Type 0} (o : Option X) → first_of_two o None ≡ o
 first_of_two-none None = refl
 first_of_two-none (Some x) = refl
 
@@ -97,7 +97,7 @@ module _ {K : Type 0} (bytes : K → List ℕ) where
           lone k true at_b at_k = absurd (true≢false (sym ((bytes_decides b kb).1 ((bytes_decides b (bytes k)).0 at_b ∙ sym ((bytes_decides kb (bytes k)).0 at_k))) ∙ apart))
           lone k false at_b at_k = at_b
 
-  find_own : (q : Key) (p : ℕ) (es : List (K × List ℕ)) (rest : List (Key × Content)) → nat_eq q.prefix p ≡ true
+  pub find_own : (q : Key) (p : ℕ) (es : List (K × List ℕ)) (rest : List (Key × Content)) → nat_eq q.prefix p ≡ true
       → find key_cmp q (entries_under bytes p es ++ rest) ≡ first_of_two (option_map content_of (lookup (has_bytes bytes q.bytes) es)) (find key_cmp q rest)
   find_own q p [] rest same = refl
   find_own q p (e ∷ es) rest same =
@@ -105,7 +105,7 @@ module _ {K : Type 0} (bytes : K → List ℕ) where
       ∙ ap (cond (has_bytes bytes q.bytes e.0) (Some (content_of e.1))) (find_own q p es rest same)
       ∙ first_by_test (has_bytes bytes q.bytes e.0) e.1 (lookup (has_bytes bytes q.bytes) es) (find key_cmp q rest)
 
-  find_other : (q : Key) (p : ℕ) (es : List (K × List ℕ)) (rest : List (Key × Content)) → nat_eq q.prefix p ≡ false
+  pub find_other : (q : Key) (p : ℕ) (es : List (K × List ℕ)) (rest : List (Key × Content)) → nat_eq q.prefix p ≡ false
       → find key_cmp q (entries_under bytes p es ++ rest) ≡ find key_cmp q rest
   find_other q p [] rest apart = refl
   find_other q p (e ∷ es) rest apart =

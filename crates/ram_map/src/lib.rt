@@ -3,6 +3,7 @@
 
 mod maps;
 mod nested;
+mod sorted;
 
 pub use maps::RamMap;
 

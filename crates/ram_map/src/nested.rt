@@ -1,11 +1,11 @@
 //! Maps from prefixes to maps from keys to values.
 
-ghost use Rattle.std.specs.Prelude.{◌≡◌, ℕ, ◌⊎◌, IsSome, OnOk, nat_eq};
+ghost use Rattle.std.specs.Prelude.{◌≡◌, ℕ, ◌⊎◌, IsSome, OnOk, false, nat_eq};
 ghost use Rattle.std.specs.FinMap.{insert, remove};
 ghost use Rattle.std.specs.Option.{option_copied};
 ghost use Rattle.std.specs.Vec.{vec_items};
 ghost use Rattle.indexmap.specs.IndexMap.{IsUnique};
-ghost use Rattle.hr_base.specs.Entries.{key_at, content_of};
+ghost use Rattle.hr_base.specs.Entries.{key_at, content_of, count_under, without_prefix};
 ghost use Rattle.ram_map.specs.Nested.{all_entries, nested_get, HasRoom};
 
 use bytes::Bytes;
@@ -67,4 +67,31 @@ pub(crate) fn take(maps: &mut Nested, prefix: u64, key: &[u8]) -> Option<Bytes>
 {
     let map = maps.get_mut(&prefix)?;
     map.swap_remove(key)
+}
+
+/// How many keys a prefix has.
+pub(crate) fn count(maps: &Nested, prefix: u64) -> usize
+    requires { IsUnique nat_eq maps.now }
+    ensures { result ≡ count_under prefix (all_entries vec_items maps.now.entries) }
+{
+    match maps.get(&prefix) {
+        Some(map) => map.len(),
+        None => 0,
+    }
+}
+
+/// Takes the map of a prefix out, and answers how many keys it had.
+pub(crate) fn clear(maps: &mut Nested, prefix: u64) -> usize
+    requires { IsUnique nat_eq maps.old }
+    ensures count { result ≡ count_under prefix (all_entries vec_items maps.old.entries) }
+    ensures unique { IsUnique nat_eq maps.new }
+    ensures kept { (other : ℕ) → nat_eq prefix other ≡ false
+        → HasRoom maps.old other → HasRoom maps.new other }
+    ensures entries { all_entries vec_items maps.new.entries
+        ≡ without_prefix prefix (all_entries vec_items maps.old.entries) }
+{
+    match maps.swap_remove(&prefix) {
+        Some(map) => map.len(),
+        None => 0,
+    }
 }

@@ -1,1 +1,6 @@
 pub mod Appended
+pub mod Distinct
+pub mod Fronts
+pub mod HeaderLaws
+pub mod SplitLaws
+pub mod StepLaws

@@ -1,68 +1,45 @@
--- How long a spelling is, and what its header reads as.
-use Rattle.std.proofs.Common.{◌≡◌, ℕ, ◌+◌, ◌≤◌, List, ◌++◌, length, take, drop, refl, ap, ◌∙◌, arith, length-append, length-drop}
+-- What the header of a record of the class says, where the bytes have all of it.
+use Rattle.std.specs.Prelude.{◌≡◌, ℕ, ◌<◌, ◌≤◌, List, Option, MatchOption, length, take, drop}
+use Rattle.std.specs.Borrow.{Bor}
 use Rattle.std.specs.Int.{w32, w64, from_be_bytes}
-use Rattle.std.proofs.lemmas.Nat.{from_be_bytes-to_be_bytes_4, from_be_bytes-to_be_bytes_8}
-use Rattle.std.proofs.lemmas.List.{take-append-le, drop-append-le}
 use Rattle.hr_base.specs.declared.name.Class.{Class}
-use Rattle.hr_base.specs.declared.name.Class.TheVariants.{Value as Values, Tomb as Tombs, Clear as Clears}
-use Rattle.hr_base.specs.Records.{header_length, record_length}
-use Rattle.record_format.specs.declared.record.Record.{Record}
-use Rattle.record_format.specs.declared.record.Record.TheVariants.{Value, Tomb, Clear}
-use Rattle.record_format.specs.Spelling.{IsRecord, seq_of, prefix_of, key_of, value_of, class_of_record, spelling}
-use Rattle.record_format.specs.Splits.{header_seq, header_key, header_value}
+use Rattle.hr_base.specs.declared.name.Class.TheVariants.{Value, Tomb, Clear}
+use Rattle.hr_base.specs.Records.{header_length}
+use Rattle.record_format.specs.declared.header.Header.{Header}
 
-pub spelling_length : (r : Record) → length (spelling r) ≡ record_length (class_of_record r) (length (key_of r)) (length (value_of r))
-spelling_length (Value seq prefix key value) = omega (arith, length-append key value)
-spelling_length (Tomb seq prefix key) = omega arith
-spelling_length (Clear prefix seq) = refl
+-- the record's number
+abbrev pub header_seq : Class → List ℕ → ℕ
+header_seq Value bytes = from_be_bytes w64 (take 8 bytes)
+header_seq Tomb bytes = from_be_bytes w64 (take 8 bytes)
+header_seq Clear bytes = from_be_bytes w64 (take 8 (drop 8 bytes))
 
--- ---- the header of a spelling says what the record is
-
-pub header_seq-spelling : (r : Record) (more : List ℕ) → IsRecord r → header_seq (class_of_record r) (spelling r ++ more) ≡ seq_of r
-header_seq-spelling (Value seq prefix key value) more valid = from_be_bytes-to_be_bytes_8 seq.0 (omega arith)
-header_seq-spelling (Tomb seq prefix key) more valid = from_be_bytes-to_be_bytes_8 seq.0 (omega arith)
-header_seq-spelling (Clear prefix seq) more valid = from_be_bytes-to_be_bytes_8 seq.0 (omega arith)
-
-pub header_key-spelling : (r : Record) (more : List ℕ) → IsRecord r → header_key (class_of_record r) (spelling r ++ more) ≡ length (key_of r)
-header_key-spelling (Value seq prefix key value) more valid = from_be_bytes-to_be_bytes_4 (length key) (omega arith)
-header_key-spelling (Tomb seq prefix key) more valid = from_be_bytes-to_be_bytes_4 (length key) (omega arith)
-header_key-spelling (Clear prefix seq) more valid = refl
-
-pub header_value-spelling : (r : Record) (more : List ℕ) → IsRecord r → header_value (class_of_record r) (spelling r ++ more) ≡ length (value_of r)
-header_value-spelling (Value seq prefix key value) more valid = from_be_bytes-to_be_bytes_4 (length value) (omega arith)
-header_value-spelling (Tomb seq prefix key) more valid = refl
-header_value-spelling (Clear prefix seq) more valid = refl
-
--- the map that a header names
+-- the map that the record speaks of
 abbrev pub header_prefix : Class → List ℕ → ℕ
-header_prefix Values bytes = from_be_bytes w64 (take 8 (drop 8 bytes))
-header_prefix Tombs bytes = from_be_bytes w64 (take 8 (drop 8 bytes))
-header_prefix Clears bytes = from_be_bytes w64 (take 8 bytes)
+header_prefix Value bytes = from_be_bytes w64 (take 8 (drop 8 bytes))
+header_prefix Tomb bytes = from_be_bytes w64 (take 8 (drop 8 bytes))
+header_prefix Clear bytes = from_be_bytes w64 (take 8 bytes)
 
-pub header_prefix-spelling : (r : Record) (more : List ℕ) → IsRecord r → header_prefix (class_of_record r) (spelling r ++ more) ≡ prefix_of r
-header_prefix-spelling (Value seq prefix key value) more valid = from_be_bytes-to_be_bytes_8 prefix valid.prefix
-header_prefix-spelling (Tomb seq prefix key) more valid = from_be_bytes-to_be_bytes_8 prefix valid.prefix
-header_prefix-spelling (Clear prefix seq) more valid = from_be_bytes-to_be_bytes_8 prefix valid.prefix
+-- the length of the key that follows
+abbrev pub header_key : Class → List ℕ → ℕ
+header_key Value bytes = from_be_bytes w32 (take 4 (drop 16 bytes))
+header_key Tomb bytes = from_be_bytes w32 (take 4 (drop 16 bytes))
+header_key Clear bytes = 0
 
--- ---- a complete header reads the same whatever follows
+-- the length of the value that follows
+abbrev pub header_value : Class → List ℕ → ℕ
+header_value Value bytes = from_be_bytes w32 (take 4 (drop 20 bytes))
+header_value Tomb bytes = 0
+header_value Clear bytes = 0
 
-field-append : (n m : ℕ) (b more : List ℕ) → n + m ≤ length b → take m (drop n (b ++ more)) ≡ take m (drop n b)
-field-append n m b more h =
-    let near : n ≤ length b = omega arith in
-    let room : m ≤ length (drop n b) = omega (arith, length-drop n b) in
-    ap (λ (s : List ℕ). take m s) (drop-append-le n b more near) ∙ take-append-le m (drop n b) more room
+-- the numbers of the complete header that the bytes begin with, and the bytes behind it
+pub record IsHeader (class : Class) (bytes : List ℕ) (header : Header) (body : List ℕ) : Type 0 where
+  pub complete : header_length class ≤ length bytes
+  pub seq : header.seq ≡ header_seq class bytes
+  pub prefix : header.prefix ≡ header_prefix class bytes
+  pub key_len : header.key_len ≡ header_key class bytes
+  pub value_len : header.value_len ≡ header_value class bytes
+  pub behind : body ≡ drop (header_length class) bytes
 
-pub header_seq-append : (c : Class) (b more : List ℕ) → header_length c ≤ length b → header_seq c (b ++ more) ≡ header_seq c b
-header_seq-append Values b more h = ap (λ (s : List ℕ). from_be_bytes w64 s) (take-append-le 8 b more (omega arith))
-header_seq-append Tombs b more h = ap (λ (s : List ℕ). from_be_bytes w64 s) (take-append-le 8 b more (omega arith))
-header_seq-append Clears b more h = ap (λ (s : List ℕ). from_be_bytes w64 s) (field-append 8 8 b more (omega arith))
-
-pub header_key-append : (c : Class) (b more : List ℕ) → header_length c ≤ length b → header_key c (b ++ more) ≡ header_key c b
-header_key-append Values b more h = ap (λ (s : List ℕ). from_be_bytes w32 s) (field-append 16 4 b more (omega arith))
-header_key-append Tombs b more h = ap (λ (s : List ℕ). from_be_bytes w32 s) (field-append 16 4 b more (omega arith))
-header_key-append Clears b more h = refl
-
-pub header_value-append : (c : Class) (b more : List ℕ) → header_length c ≤ length b → header_value c (b ++ more) ≡ header_value c b
-header_value-append Values b more h = ap (λ (s : List ℕ). from_be_bytes w32 s) (field-append 20 4 b more (omega arith))
-header_value-append Tombs b more h = refl
-header_value-append Clears b more h = refl
+-- the header that was read and the bytes behind it, or nothing where the header is not complete
+abbrev pub ReadsHeader : Class → List ℕ → Option (Header × Bor (List ℕ)) → Type 0
+ReadsHeader class bytes read = MatchOption read (length bytes < header_length class) (λ x. IsHeader class bytes x.0 x.1.now)

@@ -2,6 +2,7 @@
 use Rattle.std.specs.Prelude.{ℕ, ◌<◌, ◌≤◌, ◌^◌, List, [], ◌++◌, length}
 use Rattle.std.specs.Int.{w32, w64, to_be_bytes}
 use Rattle.std.specs.List.{flat_map}
+use Rattle.hr_base.specs.declared.limits.TheConstants.{MAX_KEY_LEN, MAX_VALUE_LEN}
 use Rattle.hr_base.specs.declared.name.Class.{Class}
 use Rattle.hr_base.specs.declared.name.Class.TheVariants.{Value as Values, Tomb as Tombs, Clear as Clears}
 use Rattle.hr_base.specs.Records.{IsSeq}
@@ -42,8 +43,8 @@ value_of (Clear prefix seq) = []
 pub record IsRecord (r : Record) : Type 0 where
   pub seq : IsSeq (seq_of r)
   pub prefix : prefix_of r < 2 ^ 64
-  pub key : length (key_of r) ≤ 65535
-  pub value : length (value_of r) ≤ 1048576
+  pub key : length (key_of r) ≤ MAX_KEY_LEN
+  pub value : length (value_of r) ≤ MAX_VALUE_LEN
 
 -- the bytes of a record; all numbers are big endian
 abbrev pub spelling : Record → List ℕ

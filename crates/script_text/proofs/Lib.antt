@@ -1,7 +1,11 @@
+pub mod Appends
+pub mod ByteTexts
 pub mod CommandTexts
 pub mod Cuts
 pub mod LineTexts
 pub mod Numbers
+pub mod Printings
 pub mod Readings
+pub mod Spellings
 pub mod Steps
 pub mod Texts

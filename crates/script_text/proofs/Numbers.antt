@@ -1,4 +1,4 @@
--- Numbers as decimal text, and words: neither has a space.
+-- Numbers as decimal text, and the text of bytes: neither has a space.
 use Rattle.std.proofs.Common.{◌≡◌, ◌≢◌, ◌<◌, ◌≤◌, ◌+◌, ◌-◌, ◌*◌, ◌^◌, ℕ, List, All, length, get_or, take, sym, ap, ◌∙◌, subst, inl, inr, arith, decimal, Option, Some, None, IfSome, IfNone}
 use Rattle.std.specs.Char.{digit_value}
 use Rattle.std.specs.Int.{IsInRange}
@@ -10,15 +10,22 @@ use Rattle.std.proofs.lemmas.Int.Digits.{digits_value_more}
 use Rattle.std.proofs.lemmas.Str.Parse.{numerals_by_value, tells_digits, digit_at, digits_value-take-le}
 use Rattle.std.proofs.lemmas.List.Elements.{All-from_get_or, All-weaker}
 use Rattle.script_text.specs.Fields.{BeginsAsNumber}
-use Rattle.script_text.specs.Lines.{IsPlain, IsWord}
+use Rattle.script_text.specs.Texts.{text_of}
+use Rattle.script_text.proofs.ByteTexts.{text_of_visible}
+
+pub decimal_visible : (n : ℕ) → n < 2 ^ 64 → All (λ b. 33 ≤ b) (decimal n)
+decimal_visible n fits =
+    All-from_get_or (λ b. 33 ≤ b) (decimal n) 0 (λ i h. let digit = digit_at (decimal n) i (decimal_is_IsNumeral n fits).0.1 h in omega (arith, digit))
+
+-- visible bytes are neither a space nor the end of a line
+pub visible_lacks_space : (bytes : List ℕ) → All (λ b. 33 ≤ b) bytes → All (λ b. b ≢ 32) bytes
+visible_lacks_space bytes visible = All-weaker (λ b. 33 ≤ b) (λ b. b ≢ 32) (λ b low e. omega (arith, low, e)) bytes visible
 
 pub decimal_lacks_space : (n : ℕ) → n < 2 ^ 64 → All (λ b. b ≢ 32) (decimal n)
-decimal_lacks_space n fits =
-    All-from_get_or (λ b. b ≢ 32) (decimal n) 0 (λ i h. let digit = digit_at (decimal n) i (decimal_is_IsNumeral n fits).0.1 h in λ e. omega (arith, digit, e))
+decimal_lacks_space n fits = visible_lacks_space (decimal n) (decimal_visible n fits)
 
-pub word_lacks_space : (limit : ℕ) (bytes : List ℕ) → IsWord limit bytes → All (λ b. b ≢ 32) bytes
-word_lacks_space limit bytes word =
-    All-weaker IsPlain (λ b. b ≢ 32) (λ b plain e. omega (arith, plain.low, e)) bytes word.each
+pub text_lacks_space : (bytes : List ℕ) → All (λ b. b ≢ 32) (text_of bytes)
+text_lacks_space bytes = visible_lacks_space (text_of bytes) (text_of_visible bytes)
 
 decimal_no_leading_zero : (n : ℕ) → n < 2 ^ 64 → get_or (decimal n) 0 0 ≡ 48 → length (decimal n) ≡ 1
 decimal_no_leading_zero n fits first =

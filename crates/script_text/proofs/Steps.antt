@@ -3,6 +3,7 @@ use Rattle.std.proofs.Common.{◌≡◌, ◌+◌, ℕ, List, [], ◌∷◌, ◌+
 use Rattle.std.proofs.lemmas.Bool.{false≢true}
 use Rattle.std.proofs.lemmas.List.{append-nil, nil_from_length, map_push}
 use Rattle.script_text.specs.declared.line.Line.{Line}
+use Rattle.script_text.specs.declared.line.Mode.{Mode}
 use Rattle.script_text.specs.Lines.{IsLine, IsScript, IsFirstBad, line_text, texts_of}
 
 -- a push that did not fail
@@ -18,15 +19,15 @@ one_more bytes rest text after lines line split first spelled =
     ∙ ap (λ texts. texts ++ texts_of after) (sym (map_push line_text lines line))
 
 -- all was read
-pub whole_script : (partitions : ℕ) (bytes rest : List ℕ) (lines : List Line) → All (IsLine partitions) lines → texts_of bytes ≡ map line_text lines ++ texts_of rest → length rest ≡ 0 → IsScript partitions bytes lines
-whole_script partitions bytes rest lines valid split none = record {
+pub whole_script : (mode : Mode) (partitions : ℕ) (bytes rest : List ℕ) (lines : List Line) → All (IsLine mode partitions) lines → texts_of bytes ≡ map line_text lines ++ texts_of rest → length rest ≡ 0 → IsScript mode partitions bytes lines
+whole_script mode partitions bytes rest lines valid split none = record {
   valid = valid;
   text = split ∙ ap (λ bs. map line_text lines ++ texts_of bs) (nil_from_length rest none) ∙ append-nil (map line_text lines);
 }
 
 -- the text after those that were read is none of the grammar
-pub first_bad : (partitions : ℕ) (bytes rest text after : List ℕ) (lines : List Line) (number : ℕ) → All (IsLine partitions) lines → texts_of bytes ≡ map line_text lines ++ texts_of rest → texts_of rest ≡ text ∷ texts_of after → ((line : Line) → IsLine partitions line → text ≡ line_text line → ⊥) → number ≡ length lines + 1 → IsFirstBad partitions bytes number
-first_bad partitions bytes rest text after lines number valid split first none counted = record {
+pub first_bad : (mode : Mode) (partitions : ℕ) (bytes rest text after : List ℕ) (lines : List Line) (number : ℕ) → All (IsLine mode partitions) lines → texts_of bytes ≡ map line_text lines ++ texts_of rest → texts_of rest ≡ text ∷ texts_of after → ((line : Line) → IsLine mode partitions line → text ≡ line_text line → ⊥) → number ≡ length lines + 1 → IsFirstBad mode partitions bytes number
+first_bad mode partitions bytes rest text after lines number valid split first none counted = record {
   front = lines;
   bad = text;
   after = texts_of after;

@@ -4,7 +4,7 @@ use Rattle.std.proofs.lemmas.Bool.{eqb-true, false_from_ne_true}
 use Rattle.std.proofs.lemmas.List.Elements.{All-head, All-tail}
 use Rattle.script_text.specs.Lines.{texts_of, before_first}
 
-texts_of-other : (b : ℕ) (bytes : List ℕ) → b ≢ 10 → texts_of (b ∷ bytes) ≡ before_first b (texts_of bytes)
+pub texts_of-other : (b : ℕ) (bytes : List ℕ) → b ≢ 10 → texts_of (b ∷ bytes) ≡ before_first b (texts_of bytes)
 texts_of-other b bytes other =
     ap (λ t. cond t ([] ∷ texts_of bytes) (before_first b (texts_of bytes))) (false_from_ne_true (b == 10) (λ e. other (eqb-true b 10 e)))
 

@@ -3,7 +3,6 @@
 ghost use Rattle.std.specs.Prelude.{◌≡◌, ◌≢◌, ◌↔◌, ◌<◌, ◌^◌, ℕ, All, IsTrue, IfSome, IfNone, decimal};
 ghost use Rattle.std.specs.Str.Parse.{AllDigits, digits_value};
 ghost use Rattle.script_text.specs.Fields.{BeginsAsNumber, IsCut};
-ghost use Rattle.script_text.specs.Lines.{IsPlain, IsWord};
 
 use hr_base::Partition;
 
@@ -71,18 +70,4 @@ pub(crate) fn read_partition(field: &[u8], partitions: u8) -> Option<Partition>
     } else {
         None
     }
-}
-
-// Whether bytes may be a key or a value of at most so many bytes.
-pub(crate) fn is_word(bytes: &[u8], limit: usize) -> bool
-    ensures { IsTrue result ↔ IsWord limit bytes.now }
-{
-    !bytes.is_empty() && bytes.len() <= limit && bytes.iter().all(|b| is_plain(*b))
-}
-
-// Whether a byte stands for itself in a key or a value.
-fn is_plain(byte: u8) -> bool
-    ensures { IsTrue result ↔ IsPlain byte }
-{
-    byte >= 33 && byte <= 126 && byte != b'%'
 }

@@ -4,11 +4,18 @@
 mod fields;
 mod laws;
 mod line;
+mod print;
 mod read;
 mod reply;
+mod script;
 #[cfg(test)]
 mod tests;
+mod text;
 
-pub use laws::{bad_or_script, one_first_bad, one_reading};
-pub use line::{Line, Script, ScriptRefusal, read_script};
+pub use laws::{
+    a_printed_line_is_read, a_read_script_printed, bad_or_script, one_first_bad, one_reading,
+};
+pub use line::{Line, Mode};
+pub use print::print_line;
 pub use reply::{Reply, print_reply};
+pub use script::{Script, ScriptRefusal, read_script};

@@ -2,34 +2,31 @@
 
 ghost use Rattle.std.specs.Prelude.{◌≡◌, ℕ, IfOk, IfSome, IfNone, List};
 ghost use Rattle.script_text.specs.declared.line.Line.{Line};
-ghost use Rattle.script_text.specs.Fields.{IsCommandText, IsGetText, IsPutText, line_of, partition_of};
-ghost use Rattle.script_text.specs.Lines.{IsLine, line_text};
+ghost use Rattle.script_text.specs.Fields.{HasWords, IsCommandText, IsKeyText, IsPutText, IsWord, line_of, word_bytes};
+ghost use Rattle.script_text.specs.Lines.{IsLine, line_text, partition_of};
 
-use crate::fields::{cut_at, is_word, read_number, read_partition};
-use crate::line::Line;
-use bytes::Bytes;
-use hr_base::Partition;
+use crate::fields::{cut_at, read_number, read_partition};
+use crate::line::{Line, Mode};
+use crate::text::{Word, owned_bytes, read_word};
+use hr_base::{MAX_KEY_LEN, MAX_VALUE_LEN, Partition};
 use std::alloc::{AllocError, Global};
-
-// The bytes of the longest key and of the longest value.
-const LONGEST_KEY: usize = 65_535;
-
-const LONGEST_VALUE: usize = 1_048_576;
 
 // A line whose key and value are borrowed from its text.
 #[derive(Clone, Copy)]
 pub(crate) enum BorrowedLine<'a> {
-    Put(Partition, u64, &'a [u8], &'a [u8]),
-    Get(Partition, u64, &'a [u8]),
+    Put(Partition, u64, Word<'a>, Word<'a>),
+    Remove(Partition, u64, Word<'a>),
+    Clear(Partition, u64),
+    Get(Partition, u64, Word<'a>),
     Sync(Partition),
 }
 
 // The line that a text spells.
-pub(crate) fn read_line(text: &[u8], partitions: u8) -> Option<BorrowedLine<'_>>
-    ensures found { IfSome result (λ line.
-        IsLine partitions (line_of line) × (text.now ≡ line_text (line_of line))) }
+pub(crate) fn read_line(text: &[u8], mode: Mode, partitions: u8) -> Option<BorrowedLine<'_>>
+    ensures found { IfSome result (λ line. HasWords line × IsLine mode partitions (line_of line)
+        × (text.now ≡ line_text (line_of line))) }
     ensures none { IfNone result
-        ((line : Line) → IsLine partitions line → text.now ≡ line_text line → ⊥) }
+        ((line : Line) → IsLine mode partitions line → text.now ≡ line_text line → ⊥) }
 {
     let (field, command) = cut_at(text, b' ')?;
     let p = read_partition(field, partitions)?;
@@ -38,16 +35,24 @@ pub(crate) fn read_line(text: &[u8], partitions: u8) -> Option<BorrowedLine<'_>>
 
 // The line of a partition, from its text behind the partition.
 fn read_command(p: Partition, command: &[u8]) -> Option<BorrowedLine<'_>>
-    ensures found { IfSome result (λ line.
-        IsCommandText command.now (line_of line) × (partition_of (line_of line) ≡ p.0)) }
+    ensures found { IfSome result (λ line. HasWords line × IsCommandText command.now (line_of line)
+        × (partition_of (line_of line) ≡ p.0)) }
     ensures none { IfNone result ((line : Line) → IsCommandText command.now line → ⊥) }
 {
     if let Some(arguments) = command.strip_prefix(b"put ") {
         let (prefix, key, value) = read_put(arguments)?;
         return Some(BorrowedLine::Put(p, prefix, key, value));
     }
+    if let Some(arguments) = command.strip_prefix(b"remove ") {
+        let (prefix, key) = read_key(arguments)?;
+        return Some(BorrowedLine::Remove(p, prefix, key));
+    }
+    if let Some(arguments) = command.strip_prefix(b"clear ") {
+        let prefix = read_number(arguments)?;
+        return Some(BorrowedLine::Clear(p, prefix));
+    }
     if let Some(arguments) = command.strip_prefix(b"get ") {
-        let (prefix, key) = read_get(arguments)?;
+        let (prefix, key) = read_key(arguments)?;
         return Some(BorrowedLine::Get(p, prefix, key));
     }
     if command == b"sync".as_slice() {
@@ -58,51 +63,54 @@ fn read_command(p: Partition, command: &[u8]) -> Option<BorrowedLine<'_>>
 }
 
 // A put's prefix, key and value.
-fn read_put(arguments: &[u8]) -> Option<(u64, &[u8], &[u8])>
-    ensures found { IfSome result (λ x. IsPutText arguments.now x.0 x.1.now x.2.now) }
+fn read_put(arguments: &[u8]) -> Option<(u64, Word<'_>, Word<'_>)>
+    ensures found { IfSome result (λ x. IsWord x.1 × IsWord x.2
+        × IsPutText arguments.now x.0 (word_bytes x.1) (word_bytes x.2)) }
     ensures none { IfNone result
         ((prefix : ℕ) (key value : List ℕ) → IsPutText arguments.now prefix key value → ⊥) }
 {
     let (field, words) = cut_at(arguments, b' ')?;
     let prefix = read_number(field)?;
-    let (key, value) = cut_at(words, b' ')?;
-    if is_word(key, LONGEST_KEY) && is_word(value, LONGEST_VALUE) {
-        Some((prefix, key, value))
-    } else {
-        None
-    }
+    let (key_text, value_text) = cut_at(words, b' ')?;
+    let key = read_word(key_text, MAX_KEY_LEN)?;
+    let value = read_word(value_text, MAX_VALUE_LEN)?;
+    Some((prefix, key, value))
 }
 
-// A get's prefix and key.
-fn read_get(arguments: &[u8]) -> Option<(u64, &[u8])>
-    ensures found { IfSome result (λ x. IsGetText arguments.now x.0 x.1.now) }
+// A prefix and a key.
+fn read_key(arguments: &[u8]) -> Option<(u64, Word<'_>)>
+    ensures found { IfSome result (λ x. IsWord x.1 × IsKeyText arguments.now x.0 (word_bytes x.1)) }
     ensures none { IfNone result
-        ((prefix : ℕ) (key : List ℕ) → IsGetText arguments.now prefix key → ⊥) }
+        ((prefix : ℕ) (key : List ℕ) → IsKeyText arguments.now prefix key → ⊥) }
 {
-    let (field, key) = cut_at(arguments, b' ')?;
+    let (field, key_text) = cut_at(arguments, b' ')?;
     let prefix = read_number(field)?;
-    if is_word(key, LONGEST_KEY) {
-        Some((prefix, key))
-    } else {
-        None
-    }
+    let key = read_word(key_text, MAX_KEY_LEN)?;
+    Some((prefix, key))
 }
 
 // The line with a key and a value of its own.
 pub(crate) fn owned(alloc: Global, line: BorrowedLine) -> Result<Line, AllocError>
+    requires { HasWords line }
     ensures { IfOk result (λ l. l ≡ line_of line.entry) }
 {
     match line {
         BorrowedLine::Put(p, prefix, key, value) => Ok(Line::Put {
             p,
             prefix,
-            key: Bytes::copy_from_slice(alloc, key)?,
-            value: Bytes::copy_from_slice(alloc, value)?,
+            key: owned_bytes(alloc, key)?,
+            value: owned_bytes(alloc, value)?,
         }),
+        BorrowedLine::Remove(p, prefix, key) => Ok(Line::Remove {
+            p,
+            prefix,
+            key: owned_bytes(alloc, key)?,
+        }),
+        BorrowedLine::Clear(p, prefix) => Ok(Line::Clear { p, prefix }),
         BorrowedLine::Get(p, prefix, key) => Ok(Line::Get {
             p,
             prefix,
-            key: Bytes::copy_from_slice(alloc, key)?,
+            key: owned_bytes(alloc, key)?,
         }),
         BorrowedLine::Sync(p) => Ok(Line::Sync { p }),
     }

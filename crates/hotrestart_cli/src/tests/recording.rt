@@ -119,6 +119,8 @@ impl<F: Folder> Folder for Recording<F> {
 
     ghost file_fits = { F.file_fits };
 
+    ghost lawful = { λ it told. F.lawful it.inner told };
+
     ghost file_named = { F.file_named };
 
     ghost sound_count = { λ it sound. F.sound_count it.inner sound };

@@ -1,5 +1,5 @@
 use Rattle.std.proofs.Common.{arith}
-use Rattle.hotrestart_cli.proofs.Readings.{read_end}
+use Rattle.hr_edges.proofs.Readings.{read_end}
 use Rattle.hotrestart_cli.proofs.input.read_through.Goals as goal
 
 pub loop-more-preserved : goal.loop-more-preserved

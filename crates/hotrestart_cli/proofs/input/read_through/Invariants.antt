@@ -1,5 +1,5 @@
 use Rattle.std.proofs.Common.{◌≡◌, ◌≤◌, ◌-◌, ◌^◌, ◌+◌, ℕ, false, cond, List, Some, vec_len}
-use Rattle.hotrestart_cli.specs.Reading.{WasRead}
+use Rattle.hr_edges.specs.Edges.{WasRead}
 use Rattle.hotrestart_cli.proofs.input.read_through.Given as goal
 
 -- what was read so far is a front of all bytes, and all of them once no more come

@@ -1,4 +1,4 @@
-use Rattle.hotrestart_cli.proofs.Writings.{written_torn}
+use Rattle.hr_edges.proofs.Writings.{written_torn}
 use Rattle.hotrestart_cli.proofs.output.write_all.Goals as goal
 
 pub returns-in-Err-clause-err : goal.returns-in-Err-clause-err

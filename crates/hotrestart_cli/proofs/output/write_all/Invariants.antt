@@ -1,5 +1,5 @@
 use Rattle.std.proofs.Common.{◌≤◌, length}
-use Rattle.hotrestart_cli.proofs.Writings.{Written}
+use Rattle.hr_edges.proofs.Writings.{Written}
 use Rattle.hotrestart_cli.proofs.output.write_all.Given as goal
 
 -- what was taken so far is a front of the piece, and the rest is to be written

@@ -2,8 +2,8 @@ use Rattle.std.proofs.Common.{All, Contains, take, subst, sym, inl, inr, List}
 use Rattle.std.proofs.lemmas.List.{take_all}
 use Rattle.std.proofs.lemmas.List.Elements.{All-more, All-weaker, Contains-get_or}
 use Rattle.hr_base.specs.declared.name.ChunkName.{ChunkName}
-use Rattle.hotrestart_cli.specs.NameOrder.{IsUpTo}
-use Rattle.hotrestart_cli.proofs.NameOrders.{up_to-chain}
+use Rattle.hr_base.specs.Names.{IsUpTo}
+use Rattle.hr_base.proofs.NameOrder.{up_to-chain}
 use Rattle.hotrestart_cli.proofs.play.least_name.Goals as goal
 
 pub loop-name-preserved : goal.loop-name-preserved

@@ -1,6 +1,5 @@
 use Rattle.std.proofs.Common.{All, Contains, take}
-use Rattle.hr_base.specs.Names.{IsChunkName}
-use Rattle.hotrestart_cli.specs.NameOrder.{IsUpTo}
+use Rattle.hr_base.specs.Names.{IsChunkName, IsUpTo}
 use Rattle.hotrestart_cli.proofs.play.least_name.Given as goal
 
 abbrev pub invariant-loop-name : goal.invariant-loop-name

@@ -1,4 +1,4 @@
-use Rattle.hotrestart_cli.proofs.NameOrders.{up_to-itself, up_to_less, up_to_not_less}
+use Rattle.hr_base.proofs.NameOrder.{up_to-itself, up_to_less, up_to_not_less}
 use Rattle.hotrestart_cli.proofs.play.lesser.Goals as goal
 
 pub returns-then-lt-clause-up_to_first : goal.returns-then-lt-clause-up_to_first

@@ -2,7 +2,7 @@ use Rattle.std.proofs.Common.{◌≡◌, ◌∙◌, ap, true, false, Bool, inl, 
 use Rattle.hotrestart_cli.specs.Outcome.{last_line, status_of}
 use Rattle.hotrestart_cli.specs.Folders.{Served}
 use Rattle.hotrestart_cli.proofs.FolderLaws.{words_told, whole_told, done_told, refused_told, not_built_told}
-use Rattle.hotrestart_cli.proofs.Refusals.{early_told, unfit_told, fit_refused, all_done, input_told, disk_told, rose_later, rose_earlier, held_told, not_whole_by, not_refused}
+use Rattle.hotrestart_cli.proofs.Refusals.{early_told, unfit_told, fit_refused, all_done, input_told, disk_told, rose_later, rose_earlier, held_told, not_whole_by, not_refused, read_told}
 use Rattle.hotrestart_cli.proofs.serve.serve.Goals as goal
 
 pub returns-clause-words : goal.returns-clause-words
@@ -25,7 +25,7 @@ returns-clause-whole g c e =
     done_told _ _ _ _ _ _ _ _ _ _ _ (record { ended = _; mid = _; because = c.run-ended.ensures.because; disk = c.run-ended.ensures.disk; calm = c.run-ended.ensures.calm; told = c.tell.ensures.told }) e
 
 pub returns-clause-ended : goal.returns-clause-ended
-returns-clause-ended g c e = let w = whole_told _ _ _ _ c.tell.ensures.told e in c.run-ended.ensures.ended w.0
+returns-clause-ended g c h = read_told _ _ _ _ _ _ _ _ _ _ _ c.run-ended.ensures.because c.tell.ensures.told h
 
 pub returns-clause-refused : goal.returns-clause-refused
 returns-clause-refused g c e =

@@ -1,8 +1,9 @@
 use Rattle.std.proofs.Common.{◌≡◌, ◌∙◌, sym, subst, ℕ, List, [], length, vec_len, arith}
 use Rattle.std.proofs.lemmas.List.{nil_from_length}
 use Rattle.std.proofs.lemmas.Bool.{eqb-true}
-use Rattle.hotrestart_cli.proofs.SessionLaws.{Takes-nothing}
-use Rattle.hotrestart_cli.specs.Outcome.{last_line, Tells, told, no_memory, not_taken, nothing_taken, Takes, TakesFront}
+use Rattle.hr_edges.specs.Edges.{Takes, TakesFront}
+use Rattle.hr_edges.proofs.Writings.{Takes-nothing}
+use Rattle.hotrestart_cli.specs.Outcome.{last_line, Tells, told, no_memory, not_taken, nothing_taken}
 use Rattle.hotrestart_cli.proofs.telling.tell.Goals as goal
 
 pub returns-in-Ok-write_all-clause-told : goal.returns-in-Ok-write_all-clause-told

@@ -1,4 +1,4 @@
-use Rattle.partition_writer.proofs.CrashLaws.{survives}
+use Rattle.partition_writer.proofs.OneChunkLaws.{survives}
 use Rattle.partition_writer.proofs.laws.one_chunk_survives.Goals as goal
 
 pub returns : goal.returns

@@ -1,4 +1,4 @@
-use Rattle.record_format.specs.Laws.{a_prefix_splits}
+use Rattle.record_format.proofs.SplitLaws.{a_prefix_splits}
 use Rattle.record_format.proofs.laws.a_prefix_splits.Goals as goal
 
 pub returns : goal.returns

@@ -1,4 +1,4 @@
-use Rattle.record_format.specs.Laws.{one_split}
+use Rattle.record_format.proofs.SplitLaws.{one_split}
 use Rattle.record_format.proofs.laws.one_split.Goals as goal
 
 pub returns : goal.returns

@@ -1,4 +1,4 @@
-use Rattle.record_format.specs.Laws.{some_split}
+use Rattle.record_format.proofs.SplitLaws.{some_split}
 use Rattle.record_format.proofs.laws.some_split.Goals as goal
 
 pub returns : goal.returns

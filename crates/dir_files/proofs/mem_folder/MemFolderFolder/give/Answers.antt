@@ -1,4 +1,4 @@
-use Rattle.std.proofs.Common.{◌≡◌, refl}
+use Rattle.std.proofs.Common.{refl}
 use Rattle.dir_files.specs.Ports.{Gives}
 use Rattle.dir_files.specs.Memory.{port_of}
 use Rattle.dir_files.proofs.MemPorts.{Gives-merged}
@@ -6,9 +6,8 @@ use Rattle.dir_files.proofs.PortLaws.{IsPort-gives}
 use Rattle.dir_files.proofs.mem_folder.MemFolderFolder.give.Goals as goal
 
 pub returns-clause-given : goal.returns-clause-given
-returns-clause-given c = λ tells name named.
-    let same : c.into_slot-slot.result.0.name ≡ name = cc (named, c.into_slot-slot.ensures.name) in
-    Gives-merged c.args.self.now.chain c.merge.new.self c.into_slot-slot.result.0 name c.args.file.content c.merge.ensures same c.into_slot-slot.ensures.entry
+returns-clause-given c =
+    Gives-merged c.args.self.now.chain c.merge.new.self c.into_slot-slot.result.0 c.args.file.name c.args.file.content c.merge.ensures c.into_slot-slot.ensures.name c.into_slot-slot.ensures.entry
 
 pub invariant_of-self : goal.invariant_of-self
 invariant_of-self c =

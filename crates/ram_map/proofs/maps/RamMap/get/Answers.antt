@@ -8,5 +8,5 @@ use Rattle.ram_map.proofs.maps.RamMap.get.Goals as goal
 pub returns : goal.returns
 returns c =
     option_map-option_map content_of (λ v. v.now) c.find.result ∙ ap (option_map content_of) c.find.ensures
-    ∙ sym (get-all_entries vec_items c.self.inside.maps.entries (key_at c.args.prefix c.args.key.now) c.self.invariant.0)
+    ∙ sym (get-all_entries vec_items c.self.inside.maps.entries (key_at c.args.prefix c.args.key.now) c.self.invariant.unique)
     ∙ ap (λ m. get m.entries (key_at c.args.prefix c.args.key.now)) c.self.view_is
