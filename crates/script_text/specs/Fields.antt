@@ -13,11 +13,6 @@ pub record IsCut (byte : ℕ) (bytes front back : List ℕ) : Type 0 where
   pub joined : bytes ≡ front ++ byte ∷ back
   pub lacking : All (λ b. b ≢ byte) front
 
--- there is a digit, and no zero leads more of them
-pub record BeginsAsNumber (digits : List ℕ) : Type 0 where
-  pub some : 0 < length digits
-  pub alone : slice_index digits 0 ≡ 48 → length digits ≡ 1
-
 -- the value of an upper-case hexadecimal digit
 abbrev pub upper_digit_value : ℕ → ℕ
 upper_digit_value c = if nat_lt c 58 then c - 48 else c - 55
