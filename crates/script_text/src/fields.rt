@@ -1,8 +1,7 @@
 //! The fields of a line.
 
-ghost use Rattle.std.specs.Prelude.{◌≡◌, ◌≢◌, ◌↔◌, ◌<◌, ◌^◌, ℕ, All, IsTrue, IfSome, IfNone, decimal};
-ghost use Rattle.std.specs.Str.Parse.{AllDigits, digits_value};
-ghost use Rattle.script_text.specs.Fields.{BeginsAsNumber, IsCut};
+ghost use Rattle.std.specs.Prelude.{◌≡◌, ◌≢◌, ◌<◌, ℕ, All, IfSome, IfNone, decimal};
+ghost use Rattle.script_text.specs.Fields.{IsCut};
 
 use hr_base::{Partition, read_decimal};
 
