@@ -5,4 +5,5 @@ pub mod KeptLaws
 pub mod ChunkLaws
 pub mod ImageLaws
 pub mod PlacedLaws
+pub mod GrowthLaws
 pub mod FileLaws

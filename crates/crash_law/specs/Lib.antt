@@ -5,3 +5,4 @@ pub mod Restarts
 pub mod Chunks
 pub mod Crashes
 pub mod Placed
+pub mod Growth
