@@ -1,5 +1,5 @@
 -- Files as contracts see them.
-use Rattle.std.specs.Prelude.{◌≡◌, ◌≢◌, ℕ, ◌≤◌, Bool, true, false, List, [], ◌++◌, length, Option}
+use Rattle.std.specs.Prelude.{◌≡◌, ◌≢◌, ℕ, ◌≤◌, Bool, true, false, List, [], ◌++◌, length, Option, None, Some, IsSomeAnd}
 use Rattle.hr_base.specs.declared.name.ChunkName.{ChunkName}
 pub use Rattle.hr_base.specs.Counts.{Rose}
 
@@ -36,6 +36,22 @@ named_file file = record { bytes = file.bytes; front = file.front; named = true 
 -- what a crash keeps at least is there
 abbrev pub IsFile : FileState → Type 0
 IsFile file = file.front ≤ length file.bytes
+
+-- a crash keeps all bytes of the file, and its name
+pub record IsDurable (file : FileState) : Type 0 where
+  pub front : file.front ≡ length file.bytes
+  pub named : file.named ≡ true
+
+-- a crash keeps of the file what it kept before, or more
+pub record KeepsMore (old new : FileState) : Type 0 where
+  pub bytes : new.bytes ≡ old.bytes
+  pub front : old.front ≤ new.front
+  pub named : old.named ≡ true → new.named ≡ true
+
+-- no file comes or goes, and a crash keeps of one what it kept before, or more
+abbrev pub Rises : Option FileState → Option FileState → Type 0
+Rises None new = new ≡ None
+Rises (Some old) new = IsSomeAnd new (KeepsMore old)
 
 -- the look-ups answer alike, but at this name
 pub record ChangesAt {A : Type 0} (old new : ChunkName → A) (name : ChunkName) (value : A) : Type 0 where

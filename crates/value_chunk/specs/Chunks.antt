@@ -6,7 +6,7 @@ use Rattle.hr_base.specs.declared.name.ChunkName.{ChunkName}
 use Rattle.record_format.specs.declared.record.Record.{Record}
 use Rattle.record_format.specs.Spelling.{spelling}
 use Rattle.record_format.specs.Splits.{IsOfClass}
-use Rattle.dir_files.specs.Files.{FileState}
+use Rattle.dir_files.specs.Files.{FileState, IsDurable}
 
 -- A chunk. Its file is what the folder tells of it, where it tells its content.
 pub record Chunk : Type 0 where
@@ -27,12 +27,7 @@ pub record IsChunk (tells : Bool) (chunk : Chunk) : Type 0 where
   pub synced : tells ≡ true → chunk.unsynced ≡ false → chunk.file.front ≡ length chunk.file.bytes
   pub within : chunk.size ≤ MAX_CHUNK_LIMIT
 
--- a crash keeps the file's bytes and its name
-pub record IsDurable (file : FileState) : Type 0 where
-  pub front : file.front ≡ length file.bytes
-  pub named : file.named ≡ true
-
--- and the chunk's size is the file's length
+-- a crash keeps the file's bytes and its name, and the chunk's size is the file's length
 pub record IsSealed (chunk : Chunk) : Type 0 where
   pub durable : IsDurable chunk.file
   pub size : chunk.size ≡ length chunk.file.bytes

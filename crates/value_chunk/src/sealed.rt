@@ -16,7 +16,8 @@ pub struct Sealed<F: Folder> {
 
 impl<F: Folder> Model for Sealed<F> {
     ghost use Rattle.std.specs.Prelude.{◌≡◌, true, false, length};
-    ghost use Rattle.value_chunk.specs.Chunks.{Chunk, IsDurable};
+    ghost use Rattle.dir_files.specs.Files.{IsDurable};
+    ghost use Rattle.value_chunk.specs.Chunks.{Chunk};
 
     ghost Value = { Chunk };
 
