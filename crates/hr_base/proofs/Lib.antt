@@ -1,3 +1,4 @@
+pub mod Decimals
 pub mod EntryLaws
 pub mod HexDigits
 pub mod NameOrder

@@ -1,4 +1,5 @@
 pub mod Counts
+pub mod Decimals
 pub mod Entries
 pub mod LimitRanges
 pub mod NameTests

@@ -1,5 +1,5 @@
 -- What the reading of one line goes by: its fields, and the byte that parts two of them.
-use Rattle.std.specs.Prelude.{◌≡◌, ◌≢◌, ℕ, ◌+◌, ◌*◌, ◌-◌, ◌<◌, ◌^◌, ◌==◌, nat_lt, List, [], ◌∷◌, ◌++◌, All, codes, decimal, length, slice_index, if◌then◌else◌}
+use Rattle.std.specs.Prelude.{◌≡◌, ◌≢◌, ℕ, ◌+◌, ◌*◌, ◌-◌, ◌<◌, ◌^◌, ◌==◌, nat_lt, List, [], ◌∷◌, ◌++◌, All, codes, decimal, length, if◌then◌else◌}
 use Rattle.hr_base.specs.declared.limits.TheConstants.{MAX_KEY_LEN, MAX_VALUE_LEN}
 use Rattle.script_text.specs.declared.line.Line.{Line}
 use Rattle.script_text.specs.declared.line.Line.TheVariants.{Put, Remove, Clear, Get, Sync}
@@ -12,11 +12,6 @@ use Rattle.script_text.specs.Texts.{IsByteString, byte_text, text_of}
 pub record IsCut (byte : ℕ) (bytes front back : List ℕ) : Type 0 where
   pub joined : bytes ≡ front ++ byte ∷ back
   pub lacking : All (λ b. b ≢ byte) front
-
--- there is a digit, and no zero leads more of them
-pub record BeginsAsNumber (digits : List ℕ) : Type 0 where
-  pub some : 0 < length digits
-  pub alone : slice_index digits 0 ≡ 48 → length digits ≡ 1
 
 -- the value of an upper-case hexadecimal digit
 abbrev pub upper_digit_value : ℕ → ℕ

@@ -5,10 +5,10 @@ ghost use Rattle.script_text.specs.declared.line.Line.{Line};
 ghost use Rattle.script_text.specs.Fields.{HasWords, IsCommandText, IsKeyText, IsPutText, IsWord, line_of, word_bytes};
 ghost use Rattle.script_text.specs.Lines.{IsLine, line_text, partition_of};
 
-use crate::fields::{cut_at, read_number, read_partition};
+use crate::fields::{cut_at, read_partition};
 use crate::line::{Line, Mode};
 use crate::text::{Word, owned_bytes, read_word};
-use hr_base::{MAX_KEY_LEN, MAX_VALUE_LEN, Partition};
+use hr_base::{MAX_KEY_LEN, MAX_VALUE_LEN, Partition, read_decimal};
 use std::alloc::{AllocError, Global};
 
 // A line whose key and value are borrowed from its text.
@@ -48,7 +48,7 @@ fn read_command(p: Partition, command: &[u8]) -> Option<BorrowedLine<'_>>
         return Some(BorrowedLine::Remove(p, prefix, key));
     }
     if let Some(arguments) = command.strip_prefix(b"clear ") {
-        let prefix = read_number(arguments)?;
+        let prefix = read_decimal(arguments)?;
         return Some(BorrowedLine::Clear(p, prefix));
     }
     if let Some(arguments) = command.strip_prefix(b"get ") {
@@ -70,7 +70,7 @@ fn read_put(arguments: &[u8]) -> Option<(u64, Word<'_>, Word<'_>)>
         ((prefix : ℕ) (key value : List ℕ) → IsPutText arguments.now prefix key value → ⊥) }
 {
     let (field, words) = cut_at(arguments, b' ')?;
-    let prefix = read_number(field)?;
+    let prefix = read_decimal(field)?;
     let (key_text, value_text) = cut_at(words, b' ')?;
     let key = read_word(key_text, MAX_KEY_LEN)?;
     let value = read_word(value_text, MAX_VALUE_LEN)?;
@@ -84,7 +84,7 @@ fn read_key(arguments: &[u8]) -> Option<(u64, Word<'_>)>
         ((prefix : ℕ) (key : List ℕ) → IsKeyText arguments.now prefix key → ⊥) }
 {
     let (field, key_text) = cut_at(arguments, b' ')?;
-    let prefix = read_number(field)?;
+    let prefix = read_decimal(field)?;
     let key = read_word(key_text, MAX_KEY_LEN)?;
     Some((prefix, key))
 }

@@ -2,8 +2,8 @@ use Rattle.std.proofs.Common.{◌<◌, arith, length, get_or, inl, inr}
 use Rattle.std.specs.Int.{IsInRange, IsOutOfRange}
 use Rattle.std.proofs.lemmas.Str.Parse.{digit_at, digit_from_value}
 use Rattle.std.proofs.lemmas.Int.Digits.{digits_more, digits_value_more}
-use Rattle.script_text.proofs.Numbers.{digit_value-digit, value_step}
-use Rattle.script_text.proofs.fields.read_digits.Goals as goal
+use Rattle.hr_base.proofs.Decimals.{digit_value-digit, value_step}
+use Rattle.hr_base.proofs.decimal.read_digits.Goals as goal
 
 pub returns-then-not-is_ascii_digit-clause-none : goal.returns-then-not-is_ascii_digit-clause-none
 returns-then-not-is_ascii_digit-clause-none c = λ digits fits.

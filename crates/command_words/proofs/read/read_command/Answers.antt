@@ -1,0 +1,8 @@
+use Rattle.std.proofs.Common.{length, take, drop, ◌-◌}
+use Rattle.command_words.specs.Words.{texts_of}
+use Rattle.command_words.proofs.Words.{limits_fit}
+use Rattle.command_words.proofs.read.read_command.Goals as goal
+
+pub returns-clause-ranges : goal.returns-clause-ranges
+returns-clause-ranges c =
+    limits_fit c.in_ok-verb.verb (texts_of (take (length c.args.words.now - 2) (drop 2 c.args.words.now))) c.in_ok-limits.limits c.in_ok-limits.ensures.found

@@ -1,0 +1,16 @@
+//! Laws of the words. Each is the contract of a function that does nothing.
+
+ghost use Rattle.std.specs.Prelude.{◌≡◌, ℕ, List, All, drop};
+ghost use Rattle.command_words.specs.declared.read.Command.{Command};
+ghost use Rattle.command_words.specs.Words.{IsCommand, IsLaterWord};
+
+/// Words mean one command at most.
+pub fn one_meaning()
+    ensures { (words : List (List ℕ)) (a b : Command) → IsCommand words a → IsCommand words b → a ≡ b }
+{}
+
+/// No word behind the folder has a `=`, and none but an option's name begins with a hyphen.
+pub fn later_words()
+    ensures { (words : List (List ℕ)) (command : Command) → IsCommand words command
+        → All IsLaterWord (drop 1 words) }
+{}
