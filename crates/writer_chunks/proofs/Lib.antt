@@ -1,0 +1,4 @@
+pub mod FileLaws
+pub mod FitLaws
+pub mod GiveLaws
+pub mod LaneLaws
