@@ -2,3 +2,4 @@ pub mod FileLaws
 pub mod FitLaws
 pub mod GiveLaws
 pub mod LaneLaws
+pub mod BeginLaws
