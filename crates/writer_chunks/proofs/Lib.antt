@@ -3,3 +3,4 @@ pub mod FitLaws
 pub mod GiveLaws
 pub mod LaneLaws
 pub mod BeginLaws
+pub mod SyncLaws
