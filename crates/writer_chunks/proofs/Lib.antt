@@ -4,3 +4,4 @@ pub mod GiveLaws
 pub mod LaneLaws
 pub mod BeginLaws
 pub mod SyncLaws
+pub mod LaneSyncLaws

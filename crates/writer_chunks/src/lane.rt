@@ -1,6 +1,6 @@
 //! The chunks of one class that a writer has in hand.
 
-ghost use Rattle.std.specs.Prelude.{◌≡◌, ◌≢◌, ◌<◌, true, false, [], ◌∷◌, ◌++◌, All, AllPairs, IfSome, IsOk, OnOk, length, option_map, vec_len, vec_capacity};
+ghost use Rattle.std.specs.Prelude.{◌≡◌, ◌≢◌, ◌<◌, true, false, [], ◌∷◌, ◌++◌, All, AllPairs, IfSome, IsOk, OnOk, length, option_map, option_to_list, vec_len, vec_capacity};
 ghost use Rattle.hr_base.specs.declared.limits.TheConstants.{MAX_CHUNK_LIMIT};
 ghost use Rattle.hr_base.specs.Names.{IsChunkName, class_of_kind};
 ghost use Rattle.dir_files.specs.Faults.{is_fault};
@@ -127,10 +127,7 @@ impl<F: Folder> Lane<F> {
         ensures port { LeavesPort ⟦<F as Folder>⟧ (is_fault result) port.old port.new }
     {
         sync_each(&mut self.full, port)?;
-        match &mut self.taking {
-            Some(chunk) => chunk.sync(port),
-            None => Ok(()),
-        }
+        sync_taking(&mut self.taking, port)
     }
 
     /// Takes note that the names are durable, after a directory sync: the full chunks are sealed, and their files given
@@ -191,6 +188,19 @@ fn sync_each<F: Folder>(full: &mut [AnyFull<F>], port: &mut F) -> Result<(), Fol
         chunk.sync(port)?;
     }
     Ok(())
+}
+
+/// Makes the bytes of the chunk's file durable, where there is a chunk.
+fn sync_taking<F: Folder>(taking: &mut Option<AnyFilling<F>>, port: &mut F) -> Result<(), FolderRefusal>
+    ensures synced { SyncsEach F.tells result (option_to_list taking.old) (option_to_list taking.new) }
+    ensures idle { All (λ chunk. chunk.unsynced ≡ false) (option_to_list taking.old)
+        → IsOk result × (taking.new ≡ taking.old) × (port.new ≡ port.old) }
+    ensures port { LeavesPort ⟦<F as Folder>⟧ (is_fault result) port.old port.new }
+{
+    match taking {
+        Some(chunk) => chunk.sync(port),
+        None => Ok(()),
+    }
 }
 
 /// Seals each chunk, and gives its file back. Where the folder refuses one, those before it are left.
