@@ -8,7 +8,9 @@ use Rattle.dir_files.specs.declared.folder.Folder.{Ghosts}
 use Rattle.dir_files.specs.declared.folder.FolderRefusal.{FolderRefusal}
 use Rattle.dir_files.specs.Faults.{is_fault, is_disk, CountsFault, StaysSound}
 use Rattle.dir_files.specs.Files.{FileState, IsFile, Rose}
-use Rattle.dir_files.specs.PortCalls.{Counts, LeavesPort}
+use Rattle.std.proofs.lemmas.Bool.{false≢true}
+use Rattle.hr_base.specs.declared.name.ChunkName.{ChunkName}
+use Rattle.dir_files.specs.PortCalls.{Counts, GivesFile, LeavesPort}
 use Rattle.dir_files.specs.Ports.{Port, SamePort}
 use Rattle.value_chunk.specs.Chunks.{Chunk}
 use Rattle.value_chunk.specs.Calls.{IsTold, IsKept, SyncsFile, synced}
@@ -105,3 +107,17 @@ pub all_synced : (tells : Bool) (old now : List Chunk) (i : ℕ) → length old 
 all_synced tells old now i past long zip =
     subst (λ (cs : List Chunk). AllZip (λ x y. IsTold tells (synced x) y) cs now) (take_all i old past)
       (subst (λ (cs : List Chunk). AllZip (λ x y. IsTold tells (synced x) y) (take i old) cs) (take_all i now (omega arith)) zip)
+
+-- ---- counts of calls that the disk refuses none of
+
+pub counts_none : {F File : Type 0} (folder : Ghosts F File) (a : F) → (folder.sound a ≡ true → folder.count a ≡ 0) → Counts folder false a a
+counts_none folder a law = record {
+  counts = record { rose = λ is. absurd (false≢true is); stays = λ is. refl; kept = omega arith };
+  stays_sound = λ sound. (sound, law sound);
+}
+
+pub counts_given : {F File : Type 0} (folder : Ghosts F File) (a b : F) (name : ChunkName) (file : FileState) → GivesFile folder a b name file → Counts folder false a b
+counts_given folder a b name file gives = record {
+  counts = record { rose = λ is. absurd (false≢true is); stays = λ is. gives.counts; kept = omega (arith, gives.counts) };
+  stays_sound = gives.stays_sound;
+}
