@@ -205,7 +205,7 @@ rises_among (x ∷ xs) [] zip n = absurd zip
 rises_among (x ∷ xs) (y ∷ ys) zip n =
     rises_either (is_name x.name n) (is_name y.name n) x.file y.file (file_among xs n) (file_among ys n) (ap (λ (m : ChunkName). is_name m n) zip.0.name) zip.0.file (rises_among xs ys zip.1 n)
 
-rises_beside : (p q h k : Option FileState) → Rises p q → Rises h k → Rises (either_file p h) (either_file q k)
+pub rises_beside : (p q h k : Option FileState) → Rises p q → Rises h k → Rises (either_file p h) (either_file q k)
 rises_beside None None h k first second = second
 rises_beside None (Some g) h k first second = absurd cc
 rises_beside (Some f) None h k first second = absurd first

@@ -5,3 +5,4 @@ pub mod LaneLaws
 pub mod BeginLaws
 pub mod SyncLaws
 pub mod LaneSyncLaws
+pub mod SettleLaws

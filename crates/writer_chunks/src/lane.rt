@@ -1,13 +1,14 @@
 //! The chunks of one class that a writer has in hand.
 
 ghost use Rattle.std.specs.Prelude.{◌≡◌, ◌≢◌, ◌<◌, true, false, [], ◌∷◌, ◌++◌, All, AllPairs, IfSome, IsOk, OnOk, length, option_map, option_to_list, vec_len, vec_capacity};
+ghost use Rattle.std.specs.List.{AllZip};
 ghost use Rattle.hr_base.specs.declared.limits.TheConstants.{MAX_CHUNK_LIMIT};
 ghost use Rattle.hr_base.specs.Names.{IsChunkName, class_of_kind};
 ghost use Rattle.dir_files.specs.Faults.{is_fault};
 ghost use Rattle.dir_files.specs.PortCalls.{Counts, LeavesPort};
 ghost use Rattle.dir_files.specs.Ports.{IsFreeName};
 ghost use Rattle.value_chunk.specs.Chunks.{IsOneRecord};
-ghost use Rattle.value_chunk.specs.Calls.{BeginsAt};
+ghost use Rattle.value_chunk.specs.Calls.{BeginsAt, IsTold, marked};
 ghost use Rattle.writer_chunks.specs.Lanes.{empty_lane, chunks, IsLane, takes, seen};
 ghost use Rattle.writer_chunks.specs.PortFits.{FitsPort, LeavesOthers};
 ghost use Rattle.writer_chunks.specs.LaneCalls.{AppendsIn, AppendsToFile, Begins, BeginsFile, EachRises, GivesEach, GivesLane, IsSynced, LeavesFull, sealed_chunks, SettlesLane, SettlesPort, SyncsEach, SyncsLane};
@@ -142,9 +143,7 @@ impl<F: Folder> Lane<F> {
         ensures fits { F.tells ≡ true → FitsPort (F.port port.new) self.new }
         ensures counts { Counts ⟦<F as Folder>⟧ (is_fault result) port.old port.new }
     {
-        if let Some(chunk) = &mut self.taking {
-            chunk.mark(port);
-        }
+        mark_taking(&mut self.taking, port);
         seal_each(&mut self.full, port)
     }
 
@@ -159,9 +158,7 @@ impl<F: Folder> Lane<F> {
             full,
             taking,
         } = self;
-        if let Some(chunk) = taking {
-            chunk.give(port);
-        }
+        give_taking(taking, port);
         give_each(full, port);
     }
 }
@@ -203,11 +200,23 @@ fn sync_taking<F: Folder>(taking: &mut Option<AnyFilling<F>>, port: &mut F) -> R
     }
 }
 
+/// Takes note that the name of the chunk's file is durable, where there is a chunk.
+fn mark_taking<F: Folder>(taking: &mut Option<AnyFilling<F>>, port: &F)
+    requires { F.tells ≡ true
+        → All (λ chunk. (F.port port.now).fixed chunk.name ≡ true) (option_to_list taking.old) }
+    ensures { AllZip (λ chunk after. IsTold F.tells (marked chunk) after)
+        (option_to_list taking.old) (option_to_list taking.new) }
+{
+    if let Some(chunk) = taking {
+        chunk.mark(port);
+    }
+}
+
 /// Seals each chunk, and gives its file back. Where the folder refuses one, those before it are left.
 fn seal_each<F: Folder>(full: &mut Vec<AnyFull<F>>, port: &mut F) -> Result<(), FolderRefusal>
     requires synced { All (λ chunk. IsSynced F.tells chunk) full.old.items }
     requires fixed { F.tells ≡ true → All (λ chunk. (F.port port.old).fixed chunk.name ≡ true) full.old.items }
-    requires once { AllPairs (λ a b. a.name ≢ b.name) full.old.items }
+    requires once { F.tells ≡ true → AllPairs (λ a b. a.name ≢ b.name) full.old.items }
     ensures answer { F.tells ≡ true → IsOk result }
     ensures left { LeavesFull result full.old.items full.new.items }
     ensures given { F.tells ≡ true → GivesEach (F.port port.old) (F.port port.new) (sealed_chunks full.old.items) }
@@ -221,7 +230,7 @@ fn seal_each<F: Folder>(full: &mut Vec<AnyFull<F>>, port: &mut F) -> Result<(), 
 
 /// Gives the file of each chunk back to the folder.
 fn give_each<F: Folder>(mut full: Vec<AnyFull<F>>, port: &mut F)
-    requires { AllPairs (λ a b. a.name ≢ b.name) full.items }
+    requires { F.tells ≡ true → AllPairs (λ a b. a.name ≢ b.name) full.items }
     ensures given { F.tells ≡ true → GivesEach (F.port port.old) (F.port port.new) full.items }
     ensures counts { Counts ⟦<F as Folder>⟧ false port.old port.new }
 {
@@ -229,4 +238,15 @@ fn give_each<F: Folder>(mut full: Vec<AnyFull<F>>, port: &mut F)
         chunk.give(port);
     }
     full.destroy_empty();
+}
+
+/// Gives the chunk's file back to the folder, where there is a chunk.
+fn give_taking<F: Folder>(taking: Option<AnyFilling<F>>, port: &mut F)
+    ensures given { F.tells ≡ true → GivesEach (F.port port.old) (F.port port.new) (option_to_list taking) }
+    ensures counts { Counts ⟦<F as Folder>⟧ false port.old port.new }
+{
+    match taking {
+        Some(chunk) => chunk.give(port),
+        None => {}
+    }
 }
