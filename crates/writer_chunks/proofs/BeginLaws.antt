@@ -74,20 +74,6 @@ module _ (lane after : LaneState) (d : Chunk) (name : ChunkName) (tells : Bool) 
       ap (λ (cs : List Chunk). cs ++ option_to_list after.taking) full
       ∙ ap (λ (o : Option Chunk). chunks lane ++ option_to_list o) taking
 
-  pub begun_fits : (p q : Port) → tells ≡ true → Creates p q name → class_of_kind name.kind ≡ lane.class → IsFreeName p name → FitsPort p lane → FitsPort q after
-  begun_fits p q told creates of_class free fits =
-      fits_begun p q name creates lane after d is.name (new_is_file d.file (is.file told)) class added of_class free fits
-
-  pub begun_files : (p q : Port) → tells ≡ true → Creates p q name → class_of_kind name.kind ≡ lane.class → IsFreeName p name → FitsPort p lane → ChangesAt (seen p lane) (seen q after) name (Some new_file)
-  begun_files p q told creates of_class free fits =
-      let none : file_among (chunks lane) d.name ≡ None = ap (file_among (chunks lane)) is.name ∙ free_absent p lane name of_class free fits in
-      let pushed = push_changes (chunks lane) d none in
-      let changes : ChangesAt (file_among (chunks lane)) (file_among (chunks after)) name (Some new_file) = record {
-        at = ap (λ (cs : List Chunk). file_among cs name) added ∙ ap (file_among (chunks lane ++ d ∷ [])) (sym is.name) ∙ pushed.at ∙ ap (λ (f : FileState). Some f) (is.file told);
-        others = λ n differ. ap (λ (cs : List Chunk). file_among cs n) added ∙ pushed.others n (λ e. differ (e ∙ is.name));
-      } in
-      seen_changes (file_among (chunks lane)) (file_among (chunks after)) p.held q.held name new_file changes creates.held
-
   pub begun_lane : class_of_kind name.kind ≡ lane.class → IfSome lane.taking (λ c. c.torn ≡ false) → IsLane lane → IsLane after
   begun_lane of_class whole was = record {
     class =
@@ -98,6 +84,20 @@ module _ (lane after : LaneState) (d : Chunk) (name : ChunkName) (tells : Bool) 
       subst (λ (cs : List Chunk). All (λ c. c.torn ≡ false) cs) (sym full)
         (All-append (λ (c : Chunk). c.torn ≡ false) lane.full (option_to_list lane.taking) was.whole (option_whole lane.taking whole));
   }
+
+  pub begun_fits : (p q : Port) → tells ≡ true → Creates p q name → class_of_kind name.kind ≡ lane.class → IsFreeName p name → IfSome lane.taking (λ c. c.torn ≡ false) → FitsPort p lane → FitsPort q after
+  begun_fits p q told creates of_class free whole fits =
+      fits_begun p q name creates lane after d is.name (new_is_file d.file (is.file told)) class added of_class free (begun_lane of_class whole fits.lawful) fits
+
+  pub begun_files : (p q : Port) → tells ≡ true → Creates p q name → class_of_kind name.kind ≡ lane.class → IsFreeName p name → FitsPort p lane → ChangesAt (seen p lane) (seen q after) name (Some new_file)
+  begun_files p q told creates of_class free fits =
+      let none : file_among (chunks lane) d.name ≡ None = ap (file_among (chunks lane)) is.name ∙ free_absent p lane name of_class free fits in
+      let pushed = push_changes (chunks lane) d none in
+      let changes : ChangesAt (file_among (chunks lane)) (file_among (chunks after)) name (Some new_file) = record {
+        at = ap (λ (cs : List Chunk). file_among cs name) added ∙ ap (file_among (chunks lane ++ d ∷ [])) (sym is.name) ∙ pushed.at ∙ ap (λ (f : FileState). Some f) (is.file told);
+        others = λ n differ. ap (λ (cs : List Chunk). file_among cs n) added ∙ pushed.others n (λ e. differ (e ∙ is.name));
+      } in
+      seen_changes (file_among (chunks lane)) (file_among (chunks after)) p.held q.held name new_file changes creates.held
 
 -- ---- where the chunk before goes
 

@@ -10,7 +10,7 @@ use Rattle.hr_base.proofs.NameTestLaws.{same_name_or_not}
 use Rattle.dir_files.specs.Files.{FileState, IsFile, ChangesAt}
 use Rattle.dir_files.specs.Ports.{Port, SamePort, IsFreeName, Creates, MayCreate, can_be_fixed}
 use Rattle.value_chunk.specs.Chunks.{Chunk}
-use Rattle.writer_chunks.specs.Lanes.{LaneState, chunks, file_among}
+use Rattle.writer_chunks.specs.Lanes.{LaneState, chunks, file_among, IsLane}
 use Rattle.writer_chunks.specs.PortFits.{FitsPort, LeavesOthers}
 use Rattle.writer_chunks.proofs.FileLaws.{IsOnce, Follows, found_alike, once_alike, once_push, push_changes, zip_all}
 
@@ -18,10 +18,11 @@ same_fixable : (old new : Port) → SamePort old new → (n : ChunkName) → can
 same_fixable old new same n = cc (same.fixed n, same.created n, same.lent n)
 
 -- the chunks changed, and neither their names nor the port
-pub fits_follows : (old new : Port) (lane after : LaneState) → SamePort old new → after.class ≡ lane.class → AllZip Follows (chunks lane) (chunks after) → FitsPort old lane → FitsPort new after
-fits_follows old new lane after same class zip fits =
+pub fits_follows : (old new : Port) (lane after : LaneState) → SamePort old new → after.class ≡ lane.class → AllZip Follows (chunks lane) (chunks after) → IsLane after → FitsPort old lane → FitsPort new after
+fits_follows old new lane after same class zip is_lane fits =
     let was = λ (n : ChunkName) (of_class : class_of_kind n.kind ≡ after.class). of_class ∙ class in
     record {
+      lawful = is_lane;
       once = once_alike (chunks lane) (chunks after) zip fits.once;
       files = zip_all Follows (λ (c : Chunk). IsFile c.file) (λ (c : Chunk). IsFile c.file) (λ c d follows is_file. follows.file is_file) (chunks lane) (chunks after) zip fits.files;
       lent = λ n of_class. same.lent n ∙ fits.lent n (was n of_class) ∙ sym (found_alike (chunks lane) (chunks after) zip n);
@@ -33,6 +34,7 @@ fits_follows old new lane after same class zip fits =
 
 pub fits_same : (old new : Port) (lane : LaneState) → SamePort old new → FitsPort old lane → FitsPort new lane
 fits_same old new lane same fits = record {
+  lawful = fits.lawful;
   once = fits.once;
   files = fits.files;
   lent = λ n of_class. same.lent n ∙ fits.lent n of_class;
@@ -68,12 +70,13 @@ module _ (old new : Port) (name : ChunkName) (creates : Creates old new name) wh
   fresh_fixable = either_true (new.fixed name) (new.created name) (new.lent name) creates.created.at creates.lent.at
 
   -- a chunk of the new name is behind the others
-  pub fits_begun : (lane after : LaneState) (d : Chunk) → d.name ≡ name → IsFile d.file → after.class ≡ lane.class → chunks after ≡ chunks lane ++ d ∷ [] → class_of_kind name.kind ≡ lane.class → IsFreeName old name → FitsPort old lane → FitsPort new after
-  fits_begun lane after d named is_file class added of_lane free fits =
+  pub fits_begun : (lane after : LaneState) (d : Chunk) → d.name ≡ name → IsFile d.file → after.class ≡ lane.class → chunks after ≡ chunks lane ++ d ∷ [] → class_of_kind name.kind ≡ lane.class → IsFreeName old name → IsLane after → FitsPort old lane → FitsPort new after
+  fits_begun lane after d named is_file class added of_lane free is_lane fits =
       let none : file_among (chunks lane) d.name ≡ None = ap (file_among (chunks lane)) named ∙ free_absent old lane name of_lane free fits in
       let changes = push_changes (chunks lane) d none in
       let found : (n : ChunkName) → file_among (chunks after) n ≡ file_among (chunks lane ++ d ∷ []) n = λ n. ap (λ (cs : List Chunk). file_among cs n) added in
       record {
+        lawful = is_lane;
         once = subst IsOnce (sym added) (once_push (chunks lane) d fits.once none);
         files = subst (λ (cs : List Chunk). All (λ c. IsFile c.file) cs) (sym added) (All-push (λ (c : Chunk). IsFile c.file) (chunks lane) d fits.files is_file);
         lent = λ n of_class. elim (same_name_or_not n name) [
@@ -112,6 +115,7 @@ module _ (old new : Port) (name : ChunkName) (may : MayCreate old new name) wher
   -- the file that may lie there has a name that is not lent
   pub fits_refused : (lane : LaneState) → IsFreeName old name → FitsPort old lane → FitsPort new lane
   fits_refused lane free fits = record {
+    lawful = fits.lawful;
     once = fits.once;
     files = fits.files;
     lent = λ n of_class. may.lent n ∙ fits.lent n of_class;

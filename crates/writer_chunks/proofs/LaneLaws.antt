@@ -94,11 +94,13 @@ module _ (class : Class) (full : List Chunk) (t : Option Chunk) (c d : Chunk) (i
   taken_spelled lane bytes view is_lane one =
       subst (λ (k : Class). IsOneRecord k bytes) (ap (λ (l : LaneState). l.class) (sym view) ∙ sym (taken_class is_lane)) one
 
-  pub appended_lane : (tells : Bool) (r : Result ℕ FolderRefusal) (bytes : List ℕ) → Appends tells r c d bytes → IsLane (record { class = class; full = full; taking = t }) → IsLane (with_taking class full d)
-  appended_lane tells r bytes h lane =
-      let was = subst IsLane taken lane in
+  appends_lane : (tells : Bool) (r : Result ℕ FolderRefusal) (bytes : List ℕ) → Appends tells r c d bytes → IsLane (with_taking class full c) → IsLane (with_taking class full d)
+  appends_lane tells r bytes h was =
       lane_follows (with_taking class full c) (with_taking class full d) refl
         (zip_append SameName full full (c ∷ []) (d ∷ []) (zip_same SameName (λ x. refl) full) (appends_name tells r c d bytes h, tt)) was.whole was
+
+  pub appended_lane : (tells : Bool) (r : Result ℕ FolderRefusal) (bytes : List ℕ) → Appends tells r c d bytes → IsLane (record { class = class; full = full; taking = t }) → IsLane (with_taking class full d)
+  appended_lane tells r bytes h lane = appends_lane tells r bytes h (subst IsLane taken lane)
 
   module _ (p q : Port) (lane : LaneState) (view : record { class = class; full = full; taking = t } ≡ lane) (same : SamePort p q) (tells : Bool) (told : tells ≡ true) (r : Result ℕ FolderRefusal) (bytes : List ℕ) (h : Appends tells r c d bytes) where
     is_lane : with_taking class full c ≡ lane
@@ -114,4 +116,5 @@ module _ (class : Class) (full : List Chunk) (t : Option Chunk) (c d : Chunk) (i
         subst (λ (l : LaneState). FitsPort p l → FitsPort q (with_taking class full d)) is_lane
           (λ fits. fits_follows p q (with_taking class full c) (with_taking class full d) same refl
             (zip_append Follows full full (c ∷ []) (d ∷ []) (zip_same Follows follows_same full)
-              (record { name = appends_name tells r c d bytes h; file = appends_file tells r c d bytes told h }, tt)) fits)
+              (record { name = appends_name tells r c d bytes h; file = appends_file tells r c d bytes told h }, tt))
+            (appends_lane tells r bytes h fits.lawful) fits)

@@ -89,7 +89,7 @@ module _ (tells : Bool) (lane after : LaneState) (each : EachChunk (IsKept tells
   pub kept_fits : (p q : Port) → tells ≡ true → SamePort p q → FitsPort p lane → FitsPort q after
   kept_fits p q told same fits =
       fits_follows p q lane after same each.class
-        (zip_weaker (IsKept tells) Follows (kept_follows tells told) (chunks lane) (chunks after) (each_zip (IsKept tells) lane after each)) fits
+        (zip_weaker (IsKept tells) Follows (kept_follows tells told) (chunks lane) (chunks after) (each_zip (IsKept tells) lane after each)) (kept_lane fits.lawful) fits
 
 -- ---- a lane that was synced, or in part
 

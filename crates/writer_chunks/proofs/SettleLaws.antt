@@ -170,6 +170,28 @@ option_once (Some c) i j d below inside = absurd (omega arith)
 abbrev lane_of : Class → List Chunk → Option Chunk → LaneState
 lane_of class full t = record { class = class; full = full; taking = t }
 
+-- ---- the lane
+
+left_none : (r : Result (Unit {0}) FolderRefusal) (old new : List Chunk) → IsOk r → LeavesFull r old new → new ≡ []
+left_none (Ok done) old new is left = left
+left_none (Err e) old new is left = absurd (false≢true is)
+
+left_all : (P : Chunk → Type 0) (r : Result (Unit {0}) FolderRefusal) (old new : List Chunk) → LeavesFull r old new → All P old → All P new
+left_all P (Ok done) old new left all = subst (λ (cs : List Chunk). All P cs) (sym left) (All-nil P)
+left_all P (Err e) old new left all = subst (λ (cs : List Chunk). All P cs) (sym left.1) (All-take P left.0 old all)
+
+pub settled_lane : (class : Class) (full now : List Chunk) (t u : Option Chunk) (tells : Bool) (r : Result (Unit {0}) FolderRefusal) → LeavesFull r full now → AllZip (λ c d. IsTold tells (marked c) d) (option_to_list t) (option_to_list u) → IsLane (lane_of class full t) → IsLane (lane_of class now u)
+settled_lane class full now t u tells r left marks is = record {
+  class =
+    All-append (λ c. class_of_kind c.name.kind ≡ class) now (option_to_list u)
+      (left_all (λ c. class_of_kind c.name.kind ≡ class) r full now left (all_front (λ c. class_of_kind c.name.kind ≡ class) full (option_to_list t) is.class))
+      (zip_all (λ c d. IsTold tells (marked c) d) (λ c. class_of_kind c.name.kind ≡ class) (λ c. class_of_kind c.name.kind ≡ class) (λ c d marked of. ap (λ (n : ChunkName). class_of_kind n.kind) marked.name ∙ of) (option_to_list t) (option_to_list u) marks
+        (all_back (λ c. class_of_kind c.name.kind ≡ class) full (option_to_list t) is.class));
+  whole = left_all (λ c. c.torn ≡ false) r full now left is.whole;
+}
+
+-- ---- its port
+
 module _ (class : Class) (full : List Chunk) (t u : Option Chunk) (tells : Bool) (told : tells ≡ true) (p q : Port) (fits : FitsPort p (lane_of class full t)) (gives : GivesEach p q (sealed_chunks full)) (marks : AllZip (λ c d. IsTold tells (marked c) d) (option_to_list t) (option_to_list u)) (synced : All (λ c. IsSynced tells c) (full ++ option_to_list t)) where
   front : (n : ChunkName) → Settles (file_among full n) (file_among (sealed_chunks full) n)
   front = settles_among full (sealed_chunks full) (sealed_settles full (all_front (λ c. IsFile c.file) full (option_to_list t) fits.files))
@@ -228,6 +250,7 @@ module _ (class : Class) (full : List Chunk) (t u : Option Chunk) (tells : Bool)
 
   settled_fits : FitsPort q (lane_of class [] u)
   settled_fits = record {
+    lawful = settled_lane class full [] t u tells (Ok tt) refl marks fits.lawful;
     once = option_once u;
     files = zip_all SettlesTo (λ c. IsFile c.file) (λ c. IsFile c.file) (λ c d settles is_file. settled_file settles.file) (option_to_list t) (option_to_list u) back_zip (all_back (λ c. IsFile c.file) full (option_to_list t) fits.files);
     lent = λ n of_class.
@@ -246,26 +269,6 @@ module _ (class : Class) (full : List Chunk) (t u : Option Chunk) (tells : Bool)
       ∙ left_foreign (file_among full n) (file_among (option_to_list t) n);
     gone = λ n of_class. gives.gone n ∙ none_gone (is_some (file_among (sealed_chunks full) n)) (p.gone n) (fits.gone n of_class);
   }
-
--- ---- the lane
-
-left_none : (r : Result (Unit {0}) FolderRefusal) (old new : List Chunk) → IsOk r → LeavesFull r old new → new ≡ []
-left_none (Ok done) old new is left = left
-left_none (Err e) old new is left = absurd (false≢true is)
-
-left_all : (P : Chunk → Type 0) (r : Result (Unit {0}) FolderRefusal) (old new : List Chunk) → LeavesFull r old new → All P old → All P new
-left_all P (Ok done) old new left all = subst (λ (cs : List Chunk). All P cs) (sym left) (All-nil P)
-left_all P (Err e) old new left all = subst (λ (cs : List Chunk). All P cs) (sym left.1) (All-take P left.0 old all)
-
-pub settled_lane : (class : Class) (full now : List Chunk) (t u : Option Chunk) (tells : Bool) (r : Result (Unit {0}) FolderRefusal) → LeavesFull r full now → AllZip (λ c d. IsTold tells (marked c) d) (option_to_list t) (option_to_list u) → IsLane (lane_of class full t) → IsLane (lane_of class now u)
-settled_lane class full now t u tells r left marks is = record {
-  class =
-    All-append (λ c. class_of_kind c.name.kind ≡ class) now (option_to_list u)
-      (left_all (λ c. class_of_kind c.name.kind ≡ class) r full now left (all_front (λ c. class_of_kind c.name.kind ≡ class) full (option_to_list t) is.class))
-      (zip_all (λ c d. IsTold tells (marked c) d) (λ c. class_of_kind c.name.kind ≡ class) (λ c. class_of_kind c.name.kind ≡ class) (λ c d marked of. ap (λ (n : ChunkName). class_of_kind n.kind) marked.name ∙ of) (option_to_list t) (option_to_list u) marks
-        (all_back (λ c. class_of_kind c.name.kind ≡ class) full (option_to_list t) is.class));
-  whole = left_all (λ c. c.torn ≡ false) r full now left is.whole;
-}
 
 module _ (class : Class) (full now : List Chunk) (t u : Option Chunk) (before : LaneState) (view : record { class = class; full = full; taking = t } ≡ before) (tells : Bool) (told : tells ≡ true) (r : Result (Unit {0}) FolderRefusal) (ok : IsOk r) (left : LeavesFull r full now) (marks : AllZip (λ c d. IsTold tells (marked c) d) (option_to_list t) (option_to_list u)) (p q : Port) (gives : GivesEach p q (sealed_chunks full)) where
   pub settles_port : IsLane (record { class = class; full = full; taking = t }) → FitsPort p before → All (λ c. IsSynced tells c) (chunks before) → SettlesPort p q before (record { class = class; full = now; taking = u })

@@ -5,11 +5,12 @@ use Rattle.hr_base.specs.declared.name.ChunkName.{ChunkName}
 use Rattle.hr_base.specs.Names.{class_of_kind}
 use Rattle.dir_files.specs.Files.{IsFile}
 use Rattle.dir_files.specs.Ports.{Port, can_be_fixed}
-use Rattle.writer_chunks.specs.Lanes.{LaneState, chunks, file_among}
+use Rattle.writer_chunks.specs.Lanes.{LaneState, chunks, file_among, IsLane}
 
 -- The names of the class that are lent at the port are those of the chunks in hand, each of one chunk. No other file
 -- has them, and a directory sync fixes them or has. Nothing of the class came from elsewhere or was removed.
 pub record FitsPort (port : Port) (lane : LaneState) : Type 0 where
+  pub lawful : IsLane lane
   pub once : AllPairs (λ a b. a.name ≢ b.name) (chunks lane)
   pub files : All (λ chunk. IsFile chunk.file) (chunks lane)
   pub lent : (name : ChunkName) → class_of_kind name.kind ≡ lane.class → port.lent name ≡ is_some (file_among (chunks lane) name)

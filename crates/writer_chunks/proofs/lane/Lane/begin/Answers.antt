@@ -38,7 +38,7 @@ returns-in-Some-clause-fits g c told =
     let class = ap (λ (l : LaneState). l.class) c.self.view_is in
     let full = joined_some c.self.inside.class c.self.inside.full.items c.reserve.new.self.items c.push_within.new.full.items c.self.inside.taking c.in-Some.before c.fill.result c.args.self.now c.self.view_is c.reserve.ensures.items (sym c.replace.ensures.value ∙ c.in-Some.is) c.fill.ensures c.push_within.ensures in
     begun_fits c.args.self.now _ c.in_ok-chunk.chunk c.args.name g.F.Folder.tells class full c.replace.ensures.after c.in_ok-chunk.ensures.begun
-      (g.F.Folder.port c.args.port.now) (g.F.Folder.port c.begin.new.port) told (c.in_ok-chunk.ensures.port told) c.requires.class (c.requires.free told) (c.requires.fits told)
+      (g.F.Folder.port c.args.port.now) (g.F.Folder.port c.begin.new.port) told (c.in_ok-chunk.ensures.port told) c.requires.class (c.requires.free told) c.requires.whole (c.requires.fits told)
 
 pub invariant_of-self-in_default : goal.invariant_of-self-in_default
 invariant_of-self-in_default g c =
@@ -58,4 +58,4 @@ returns-in_default-clause-fits g c told =
     let class = ap (λ (l : LaneState). l.class) c.self.view_is in
     let full = joined_none c.self.inside.class c.self.inside.full.items c.reserve.new.self.items c.self.inside.taking c.args.self.now c.self.view_is c.reserve.ensures.items (sym c.replace.ensures.value ∙ c.in_default.is) in
     begun_fits c.args.self.now _ c.in_ok-chunk.chunk c.args.name g.F.Folder.tells class full c.replace.ensures.after c.in_ok-chunk.ensures.begun
-      (g.F.Folder.port c.args.port.now) (g.F.Folder.port c.begin.new.port) told (c.in_ok-chunk.ensures.port told) c.requires.class (c.requires.free told) (c.requires.fits told)
+      (g.F.Folder.port c.args.port.now) (g.F.Folder.port c.begin.new.port) told (c.in_ok-chunk.ensures.port told) c.requires.class (c.requires.free told) c.requires.whole (c.requires.fits told)
