@@ -1,18 +1,19 @@
 -- What keeps a lane fitting its port.
-use Rattle.std.proofs.Common.{◌≡◌, ◌≢◌, Bool, true, false, ◌&&◌, ◌||◌, List, [], ◌∷◌, ◌++◌, Option, Some, None, is_some, All, refl, ap, sym, ◌∙◌, subst, inl, inr}
+use Rattle.std.proofs.Common.{◌≡◌, ◌≢◌, Bool, true, false, cond, ◌&&◌, ◌||◌, List, [], ◌∷◌, ◌++◌, Option, Some, None, is_some, option_map, All, refl, ap, sym, ◌∙◌, subst, inl, inr}
 use Rattle.std.specs.List.{AllZip}
 use Rattle.std.proofs.lemmas.Bool.{false≢true}
-use Rattle.std.proofs.lemmas.List.Elements.{All-push}
+use Rattle.std.proofs.lemmas.List.Elements.{All-nil, All-cons, All-push, All-weaker}
 use Rattle.hr_base.specs.declared.name.Class.{Class}
 use Rattle.hr_base.specs.declared.name.ChunkName.{ChunkName}
 use Rattle.hr_base.specs.Names.{class_of_kind}
-use Rattle.hr_base.proofs.NameTestLaws.{same_name_or_not}
-use Rattle.dir_files.specs.Files.{FileState, IsFile, ChangesAt}
-use Rattle.dir_files.specs.Ports.{Port, SamePort, IsFreeName, Creates, MayCreate, can_be_fixed}
+use Rattle.hr_base.proofs.NameTestLaws.{is_name-same, same_name_or_not}
+use Rattle.hr_base.specs.NameTests.{is_name}
+use Rattle.dir_files.specs.Files.{FileState, IsFile, ChangesAt, named_file}
+use Rattle.dir_files.specs.Ports.{Port, SamePort, IsFreeName, Creates, MayCreate, SyncsNames, can_be_fixed, either_file}
 use Rattle.value_chunk.specs.Chunks.{Chunk}
-use Rattle.writer_chunks.specs.Lanes.{LaneState, chunks, file_among, IsLane}
+use Rattle.writer_chunks.specs.Lanes.{LaneState, chunks, file_among, seen, IsLane}
 use Rattle.writer_chunks.specs.PortFits.{FitsPort, LeavesOthers}
-use Rattle.writer_chunks.proofs.FileLaws.{IsOnce, Follows, found_alike, once_alike, once_push, push_changes, zip_all}
+use Rattle.writer_chunks.proofs.FileLaws.{IsOnce, Follows, all_absent, file_among-here, found_alike, once_alike, once_push, push_changes, zip_all}
 
 same_fixable : (old new : Port) → SamePort old new → (n : ChunkName) → can_be_fixed new n ≡ can_be_fixed old n
 same_fixable old new same n = cc (same.fixed n, same.created n, same.lent n)
@@ -151,3 +152,71 @@ others_same class old new same = record {
   created = λ n apart. same.created n;
   fixed = λ n apart. same.fixed n;
 }
+
+-- ---- calls that are not those of the lane
+
+-- a name of another class is of no chunk
+pub other_absent : (class : Class) (cs : List Chunk) → All (λ c. class_of_kind c.name.kind ≡ class) cs → (n : ChunkName) → class_of_kind n.kind ≢ class → file_among cs n ≡ None
+other_absent class cs all n apart =
+    all_absent cs n (All-weaker (λ c. class_of_kind c.name.kind ≡ class) (λ c. c.name ≢ n) (λ c of_class same. apart (ap (λ (m : ChunkName). class_of_kind m.kind) (sym same) ∙ of_class)) cs all)
+
+some_given : (b : Bool) (f : FileState) (p : Option FileState) → is_some p ≡ true → is_some (cond b (Some f) p) ≡ true
+some_given true f p found = refl
+some_given false f p found = found
+
+-- each chunk is found by its name
+pub all_found : (cs : List Chunk) → All (λ c. is_some (file_among cs c.name) ≡ true) cs
+all_found [] = All-nil (λ (c : Chunk). is_some (file_among [] c.name) ≡ true)
+all_found (x ∷ xs) =
+    All-cons (λ (c : Chunk). is_some (file_among (x ∷ xs) c.name) ≡ true) x xs
+      (ap is_some (file_among-here x xs x.name (is_name-same x.name)))
+      (All-weaker (λ (c : Chunk). is_some (file_among xs c.name) ≡ true) (λ (c : Chunk). is_some (file_among (x ∷ xs) c.name) ≡ true)
+        (λ c found. some_given (is_name x.name c.name) x.file (file_among xs c.name) found) xs (all_found xs))
+
+-- the class of a chunk, and that its name is found
+both_found : (class : Class) (cs : List Chunk) → All (λ c. class_of_kind c.name.kind ≡ class) cs → All (λ c. (class_of_kind c.name.kind ≡ class) × (is_some (file_among cs c.name) ≡ true)) cs
+both_found class cs of_class k d inside = (of_class k d inside, all_found cs k d inside)
+
+module _ (old new : Port) (lane : LaneState) (syncs : SyncsNames old new) (fits : FitsPort old lane) where
+  synced_fixed : (n : ChunkName) → class_of_kind n.kind ≡ lane.class → old.lent n ≡ true → new.fixed n ≡ true
+  synced_fixed n of_class lent = syncs.fixed n ∙ fits.fixable n of_class lent
+
+  pub fits_synced_names : FitsPort new lane
+  fits_synced_names = record {
+    lawful = fits.lawful;
+    once = fits.once;
+    files = fits.files;
+    lent = λ n of_class. syncs.lent n ∙ fits.lent n of_class;
+    held = λ n of_class lent. syncs.held n ∙ ap (option_map named_file) (fits.held n of_class (sym (syncs.lent n) ∙ lent));
+    fixable = λ n of_class lent.
+      ap (λ (b : Bool). b || (new.created n && new.lent n)) (synced_fixed n of_class (sym (syncs.lent n) ∙ lent));
+    foreign = λ n of_class. syncs.foreign n ∙ fits.foreign n of_class;
+    gone = λ n of_class. syncs.gone n;
+  }
+
+  pub all_fixed : All (λ c. new.fixed c.name ≡ true) (chunks lane)
+  all_fixed =
+      All-weaker (λ c. (class_of_kind c.name.kind ≡ lane.class) × (is_some (file_among (chunks lane) c.name) ≡ true)) (λ c. new.fixed c.name ≡ true)
+        (λ c both. synced_fixed c.name both.0 (fits.lent c.name both.0 ∙ both.1)) (chunks lane) (both_found lane.class (chunks lane) fits.lawful.class)
+
+-- calls on chunks of another class
+pub fits_others : (class : Class) (old new : Port) (lane : LaneState) → lane.class ≢ class → LeavesOthers class old new → FitsPort old lane → FitsPort new lane
+fits_others class old new lane differ others fits =
+    let apart = λ (n : ChunkName) (of_class : class_of_kind n.kind ≡ lane.class) (same : class_of_kind n.kind ≡ class). differ (sym of_class ∙ same) in
+    record {
+      lawful = fits.lawful;
+      once = fits.once;
+      files = fits.files;
+      lent = λ n of_class. others.lent n (apart n of_class) ∙ fits.lent n of_class;
+      held = λ n of_class lent. others.held n (apart n of_class) ∙ fits.held n of_class (sym (others.lent n (apart n of_class)) ∙ lent);
+      fixable = λ n of_class lent.
+        let same : can_be_fixed new n ≡ can_be_fixed old n = cc (others.fixed n (apart n of_class), others.created n (apart n of_class), others.lent n (apart n of_class)) in
+        same ∙ fits.fixable n of_class (sym (others.lent n (apart n of_class)) ∙ lent);
+      foreign = λ n of_class. others.foreign n (apart n of_class) ∙ fits.foreign n of_class;
+      gone = λ n of_class. others.gone n (apart n of_class) ∙ fits.gone n of_class;
+    }
+
+-- the files seen are in hand for names of the class alone
+pub seen_elsewhere : (port : Port) (lane : LaneState) (n : ChunkName) → FitsPort port lane → class_of_kind n.kind ≢ lane.class → seen port lane n ≡ port.held n
+seen_elsewhere port lane n fits apart =
+    ap (λ (o : Option FileState). either_file o (port.held n)) (other_absent lane.class (chunks lane) fits.lawful.class n apart)

@@ -14,6 +14,7 @@ use Rattle.value_chunk.specs.Chunks.{Chunk}
 use Rattle.writer_chunks.specs.Lanes.{LaneState, chunks, file_among, IsLane}
 use Rattle.writer_chunks.specs.PortFits.{FitsPort, LeavesOthers}
 use Rattle.writer_chunks.specs.LaneCalls.{GivesEach, GivesLane}
+use Rattle.writer_chunks.proofs.FitLaws.{other_absent}
 use Rattle.writer_chunks.proofs.FileLaws.{file_among-here, file_among-past, file_among-append, all_absent, once_after, once_before, once_front}
 
 pub and_true : (b : Bool) → b ≡ (b && true)
@@ -200,11 +201,6 @@ not_both false = refl
 pub none_gone : (b : Bool) (h : Option FileState) → h ≡ None → cond b None h ≡ None
 none_gone true h e = refl
 none_gone false h e = e
-
--- a name of another class is of no chunk
-pub other_absent : (class : Class) (cs : List Chunk) → All (λ c. class_of_kind c.name.kind ≡ class) cs → (n : ChunkName) → class_of_kind n.kind ≢ class → file_among cs n ≡ None
-other_absent class cs all n apart =
-    all_absent cs n (All-weaker (λ c. class_of_kind c.name.kind ≡ class) (λ c. c.name ≢ n) (λ c of_class same. apart (ap (λ (m : ChunkName). class_of_kind m.kind) (sym same) ∙ of_class)) cs all)
 
 pub gives_others : (class : Class) (p r : Port) (cs : List Chunk) → All (λ c. class_of_kind c.name.kind ≡ class) cs → GivesEach p r cs → LeavesOthers class p r
 gives_others class p r cs all gives =
