@@ -24,10 +24,10 @@ may_files : (p q : Port) (lane : LaneState) (name : ChunkName) → MayCreate p q
 may_files p q lane name may none = elim may.at [
   | inl same ↦
       inl (seen_same (file_among (chunks lane)) (file_among (chunks lane)) p.held q.held (λ n. refl)
-        (λ n. elim (same_name_or_not n name) [
-          | inl is ↦ ap q.held is ∙ same ∙ ap p.held (sym is)
-          | inr differ ↦ may.others n differ
-        ]))
+      (λ n. elim (same_name_or_not n name) [
+        | inl is ↦ ap q.held is ∙ same ∙ ap p.held (sym is)
+        | inr differ ↦ may.others n differ
+      ]))
   | inr created ↦
       inr (record {
         at = ap (λ (o : Option FileState). either_file o (q.held name)) none ∙ created;
@@ -51,8 +51,8 @@ refused_fits T p q lane after name e same begins free fits =
 pub refused_files : (T : Type 0) (p q : Port) (lane after : LaneState) (name : ChunkName) (e : FolderRefusal) (r : Result (Unit {0}) FolderRefusal) → r ≡ Err e → after ≡ lane → BeginsAt {T = T} (Err e) p q name → class_of_kind name.kind ≡ lane.class → IsFreeName p name → FitsPort p lane → BeginsFile r (seen p lane) (seen q after) name
 refused_files T p q lane after name e r refused same begins class free fits =
     subst (λ (l : LaneState). BeginsFile r (seen p lane) (seen q l) name) (sym same)
-      (subst (λ (x : Result (Unit {0}) FolderRefusal). BeginsFile x (seen p lane) (seen q lane) name) (sym refused)
-        (refused_files_same T p q lane name e begins class free fits))
+    (subst (λ (x : Result (Unit {0}) FolderRefusal). BeginsFile x (seen p lane) (seen q lane) name) (sym refused)
+    (refused_files_same T p q lane name e begins class free fits))
 
 pub begin_others : {T : Type 0} (p q : Port) (class : Class) (name : ChunkName) (r : Result T FolderRefusal) → BeginsAt r p q name → class_of_kind name.kind ≡ class → LeavesOthers class p q
 begin_others p q class name (Ok x) creates of_class = others_created p q name creates class of_class
@@ -77,11 +77,11 @@ module _ (lane after : LaneState) (d : Chunk) (name : ChunkName) (tells : Bool) 
   pub begun_lane : class_of_kind name.kind ≡ lane.class → IfSome lane.taking (λ c. c.torn ≡ false) → IsLane lane → IsLane after
   begun_lane of_class whole was = record {
     class =
-      subst (λ (cs : List Chunk). All (λ c. class_of_kind c.name.kind ≡ after.class) cs) (sym added)
+        subst (λ (cs : List Chunk). All (λ c. class_of_kind c.name.kind ≡ after.class) cs) (sym added)
         (subst (λ (k : Class). All (λ c. class_of_kind c.name.kind ≡ k) (chunks lane ++ d ∷ [])) (sym class)
-          (All-push (λ (c : Chunk). class_of_kind c.name.kind ≡ lane.class) (chunks lane) d was.class (ap (λ (n : ChunkName). class_of_kind n.kind) is.name ∙ of_class)));
+        (All-push (λ (c : Chunk). class_of_kind c.name.kind ≡ lane.class) (chunks lane) d was.class (ap (λ (n : ChunkName). class_of_kind n.kind) is.name ∙ of_class)));
     whole =
-      subst (λ (cs : List Chunk). All (λ c. c.torn ≡ false) cs) (sym full)
+        subst (λ (cs : List Chunk). All (λ c. c.torn ≡ false) cs) (sym full)
         (All-append (λ (c : Chunk). c.torn ≡ false) lane.full (option_to_list lane.taking) was.whole (option_whole lane.taking whole));
   }
 

@@ -48,7 +48,7 @@ absent_all (c ∷ cs) n none =
       | inl here ↦ absurd (let e : Some c.file ≡ None = sym (file_among-here c cs n here) ∙ none in cc)
       | inr past ↦
           All-cons (λ (c : Chunk). c.name ≢ n) c cs (λ same. false≢true (sym past ∙ subst (λ (x : ChunkName). is_name c.name x ≡ true) same (is_name-same c.name)))
-            (absent_all cs n (sym (file_among-past c cs n past) ∙ none))
+          (absent_all cs n (sym (file_among-past c cs n past) ∙ none))
     ]
 
 pub all_absent : (cs : List Chunk) (n : ChunkName) → All (λ c. c.name ≢ n) cs → file_among cs n ≡ None
@@ -76,14 +76,14 @@ rest_at c ys k d = grind arith
 pub once_after : (xs : List Chunk) (c : Chunk) (ys : List Chunk) → IsOnce (xs ++ c ∷ ys) → file_among ys c.name ≡ None
 once_after xs c ys once =
     all_absent ys c.name (λ k d inside same.
-      once (length xs + 0) (length xs + (k + 1)) d (omega arith) (omega (arith, length-append xs (c ∷ ys)))
-        (ap (λ (x : Chunk). x.name) (get_or-append-add xs (c ∷ ys) 0 d) ∙ sym same ∙ ap (λ (x : Chunk). x.name) (sym (get_or-append-add xs (c ∷ ys) (k + 1) d ∙ rest_at c ys k d))))
+    once (length xs + 0) (length xs + (k + 1)) d (omega arith) (omega (arith, length-append xs (c ∷ ys)))
+    (ap (λ (x : Chunk). x.name) (get_or-append-add xs (c ∷ ys) 0 d) ∙ sym same ∙ ap (λ (x : Chunk). x.name) (sym (get_or-append-add xs (c ∷ ys) (k + 1) d ∙ rest_at c ys k d))))
 
 pub once_before : (xs : List Chunk) (c : Chunk) (ys : List Chunk) → IsOnce (xs ++ c ∷ ys) → file_among xs c.name ≡ None
 once_before xs c ys once =
     all_absent xs c.name (λ k d inside same.
-      once k (length xs + 0) d (omega arith) (omega (arith, length-append xs (c ∷ ys)))
-        (ap (λ (x : Chunk). x.name) (get_or_append_left xs (c ∷ ys) d k inside) ∙ same ∙ ap (λ (x : Chunk). x.name) (sym (get_or-append-add xs (c ∷ ys) 0 d))))
+    once k (length xs + 0) d (omega arith) (omega (arith, length-append xs (c ∷ ys)))
+    (ap (λ (x : Chunk). x.name) (get_or_append_left xs (c ∷ ys) d k inside) ∙ same ∙ ap (λ (x : Chunk). x.name) (sym (get_or-append-add xs (c ∷ ys) 0 d))))
 
 -- ---- lists whose chunks go together
 
@@ -150,15 +150,15 @@ seen_same before after held now alike same n = either_at (before n) (after n) (h
 pub last_changes : (cs : List Chunk) (c d : Chunk) → d.name ≡ c.name → file_among cs c.name ≡ None → ChangesAt (file_among (cs ++ c ∷ [])) (file_among (cs ++ d ∷ [])) c.name (Some d.file)
 last_changes cs c d same none = record {
   at =
-    file_among-append cs (d ∷ []) c.name
-    ∙ ap (λ (p : Option FileState). either_file p (file_among (d ∷ []) c.name)) none
-    ∙ file_among-here d [] c.name (subst (λ (x : ChunkName). is_name x c.name ≡ true) (sym same) (is_name-same c.name));
+      file_among-append cs (d ∷ []) c.name
+      ∙ ap (λ (p : Option FileState). either_file p (file_among (d ∷ []) c.name)) none
+      ∙ file_among-here d [] c.name (subst (λ (x : ChunkName). is_name x c.name ≡ true) (sym same) (is_name-same c.name));
   others = λ other differ.
-    file_among-append cs (d ∷ []) other
-    ∙ ap (λ (p : Option FileState). either_file (file_among cs other) p)
-        (file_among-past d [] other (is_name-other d.name other (λ e. differ (sym e ∙ same)))
-         ∙ sym (file_among-past c [] other (is_name-other c.name other (λ e. differ (sym e)))))
-    ∙ sym (file_among-append cs (c ∷ []) other);
+      file_among-append cs (d ∷ []) other
+      ∙ ap (λ (p : Option FileState). either_file (file_among cs other) p)
+      (file_among-past d [] other (is_name-other d.name other (λ e. differ (sym e ∙ same)))
+      ∙ sym (file_among-past c [] other (is_name-other c.name other (λ e. differ (sym e)))))
+      ∙ sym (file_among-append cs (c ∷ []) other);
 }
 
 either_none : (p : Option FileState) → either_file p None ≡ p
@@ -169,13 +169,13 @@ either_none (Some f) = refl
 pub push_changes : (cs : List Chunk) (d : Chunk) → file_among cs d.name ≡ None → ChangesAt (file_among cs) (file_among (cs ++ d ∷ [])) d.name (Some d.file)
 push_changes cs d none = record {
   at =
-    file_among-append cs (d ∷ []) d.name
-    ∙ ap (λ (p : Option FileState). either_file p (file_among (d ∷ []) d.name)) none
-    ∙ file_among-here d [] d.name (is_name-same d.name);
+      file_among-append cs (d ∷ []) d.name
+      ∙ ap (λ (p : Option FileState). either_file p (file_among (d ∷ []) d.name)) none
+      ∙ file_among-here d [] d.name (is_name-same d.name);
   others = λ other differ.
-    file_among-append cs (d ∷ []) other
-    ∙ ap (λ (p : Option FileState). either_file (file_among cs other) p) (file_among-past d [] other (is_name-other d.name other (λ e. differ (sym e))))
-    ∙ either_none (file_among cs other);
+      file_among-append cs (d ∷ []) other
+      ∙ ap (λ (p : Option FileState). either_file (file_among cs other) p) (file_among-past d [] other (is_name-other d.name other (λ e. differ (sym e))))
+      ∙ either_none (file_among cs other);
 }
 
 -- ---- files that rise

@@ -125,8 +125,8 @@ module _ (old new : Port) (name : ChunkName) (may : MayCreate old new name) wher
       | inr differ ↦ may.others n differ ∙ fits.held n of_class (sym (may.lent n) ∙ lent)
     ];
     fixable = λ n of_class lent.
-      let same : can_be_fixed new n ≡ can_be_fixed old n = cc (may.fixed n, may.created n, may.lent n) in
-      same ∙ fits.fixable n of_class (sym (may.lent n) ∙ lent);
+        let same : can_be_fixed new n ≡ can_be_fixed old n = cc (may.fixed n, may.created n, may.lent n) in
+        same ∙ fits.fixable n of_class (sym (may.lent n) ∙ lent);
     foreign = λ n of_class. may.foreign n ∙ fits.foreign n of_class;
     gone = λ n of_class. may.gone n ∙ fits.gone n of_class;
   }
@@ -169,9 +169,9 @@ pub all_found : (cs : List Chunk) → All (λ c. is_some (file_among cs c.name) 
 all_found [] = All-nil (λ (c : Chunk). is_some (file_among [] c.name) ≡ true)
 all_found (x ∷ xs) =
     All-cons (λ (c : Chunk). is_some (file_among (x ∷ xs) c.name) ≡ true) x xs
-      (ap is_some (file_among-here x xs x.name (is_name-same x.name)))
-      (All-weaker (λ (c : Chunk). is_some (file_among xs c.name) ≡ true) (λ (c : Chunk). is_some (file_among (x ∷ xs) c.name) ≡ true)
-        (λ c found. some_given (is_name x.name c.name) x.file (file_among xs c.name) found) xs (all_found xs))
+    (ap is_some (file_among-here x xs x.name (is_name-same x.name)))
+    (All-weaker (λ (c : Chunk). is_some (file_among xs c.name) ≡ true) (λ (c : Chunk). is_some (file_among (x ∷ xs) c.name) ≡ true)
+    (λ c found. some_given (is_name x.name c.name) x.file (file_among xs c.name) found) xs (all_found xs))
 
 -- the class of a chunk, and that its name is found
 both_found : (class : Class) (cs : List Chunk) → All (λ c. class_of_kind c.name.kind ≡ class) cs → All (λ c. (class_of_kind c.name.kind ≡ class) × (is_some (file_among cs c.name) ≡ true)) cs
@@ -189,7 +189,7 @@ module _ (old new : Port) (lane : LaneState) (syncs : SyncsNames old new) (fits 
     lent = λ n of_class. syncs.lent n ∙ fits.lent n of_class;
     held = λ n of_class lent. syncs.held n ∙ ap (option_map named_file) (fits.held n of_class (sym (syncs.lent n) ∙ lent));
     fixable = λ n of_class lent.
-      ap (λ (b : Bool). b || (new.created n && new.lent n)) (synced_fixed n of_class (sym (syncs.lent n) ∙ lent));
+        ap (λ (b : Bool). b || (new.created n && new.lent n)) (synced_fixed n of_class (sym (syncs.lent n) ∙ lent));
     foreign = λ n of_class. syncs.foreign n ∙ fits.foreign n of_class;
     gone = λ n of_class. syncs.gone n;
   }
@@ -197,7 +197,7 @@ module _ (old new : Port) (lane : LaneState) (syncs : SyncsNames old new) (fits 
   pub all_fixed : All (λ c. new.fixed c.name ≡ true) (chunks lane)
   all_fixed =
       All-weaker (λ c. (class_of_kind c.name.kind ≡ lane.class) × (is_some (file_among (chunks lane) c.name) ≡ true)) (λ c. new.fixed c.name ≡ true)
-        (λ c both. synced_fixed c.name both.0 (fits.lent c.name both.0 ∙ both.1)) (chunks lane) (both_found lane.class (chunks lane) fits.lawful.class)
+      (λ c both. synced_fixed c.name both.0 (fits.lent c.name both.0 ∙ both.1)) (chunks lane) (both_found lane.class (chunks lane) fits.lawful.class)
 
 -- calls on chunks of another class
 pub fits_others : (class : Class) (old new : Port) (lane : LaneState) → lane.class ≢ class → LeavesOthers class old new → FitsPort old lane → FitsPort new lane
@@ -210,8 +210,8 @@ fits_others class old new lane differ others fits =
       lent = λ n of_class. others.lent n (apart n of_class) ∙ fits.lent n of_class;
       held = λ n of_class lent. others.held n (apart n of_class) ∙ fits.held n of_class (sym (others.lent n (apart n of_class)) ∙ lent);
       fixable = λ n of_class lent.
-        let same : can_be_fixed new n ≡ can_be_fixed old n = cc (others.fixed n (apart n of_class), others.created n (apart n of_class), others.lent n (apart n of_class)) in
-        same ∙ fits.fixable n of_class (sym (others.lent n (apart n of_class)) ∙ lent);
+          let same : can_be_fixed new n ≡ can_be_fixed old n = cc (others.fixed n (apart n of_class), others.created n (apart n of_class), others.lent n (apart n of_class)) in
+          same ∙ fits.fixable n of_class (sym (others.lent n (apart n of_class)) ∙ lent);
       foreign = λ n of_class. others.foreign n (apart n of_class) ∙ fits.foreign n of_class;
       gone = λ n of_class. others.gone n (apart n of_class) ∙ fits.gone n of_class;
     }

@@ -153,28 +153,28 @@ module _ (p q r : Port) (xs ys : List Chunk) (first : GivesEach p q ys) (second 
   pub gives_then : GivesEach p r (xs ++ ys)
   gives_then = record {
     held = λ n.
-      second.held n ∙ ap (λ (o : Option FileState). either_file (file_among xs n) o) (first.held n)
-      ∙ then_held (file_among xs n) (file_among ys n) (p.held n)
-      ∙ ap (λ (o : Option FileState). either_file o (p.held n)) (sym (file_among-append xs ys n));
+        second.held n ∙ ap (λ (o : Option FileState). either_file (file_among xs n) o) (first.held n)
+        ∙ then_held (file_among xs n) (file_among ys n) (p.held n)
+        ∙ ap (λ (o : Option FileState). either_file o (p.held n)) (sym (file_among-append xs ys n));
     gone = λ n.
-      second.gone n ∙ ap (λ (o : Option FileState). cond (is_some (file_among xs n)) None o) (first.gone n)
-      ∙ then_gone (file_among xs n) (file_among ys n) (p.gone n)
-      ∙ ap (λ (o : Option FileState). cond (is_some o) None (p.gone n)) (sym (file_among-append xs ys n));
+        second.gone n ∙ ap (λ (o : Option FileState). cond (is_some (file_among xs n)) None o) (first.gone n)
+        ∙ then_gone (file_among xs n) (file_among ys n) (p.gone n)
+        ∙ ap (λ (o : Option FileState). cond (is_some o) None (p.gone n)) (sym (file_among-append xs ys n));
     lent = λ n.
-      second.lent n ∙ ap (λ (b : Bool). b && not (is_some (file_among xs n))) (first.lent n)
-      ∙ then_lent (file_among xs n) (file_among ys n) (p.lent n)
-      ∙ ap (λ (o : Option FileState). p.lent n && not (is_some o)) (sym (file_among-append xs ys n));
+        second.lent n ∙ ap (λ (b : Bool). b && not (is_some (file_among xs n))) (first.lent n)
+        ∙ then_lent (file_among xs n) (file_among ys n) (p.lent n)
+        ∙ ap (λ (o : Option FileState). p.lent n && not (is_some o)) (sym (file_among-append xs ys n));
     foreign = λ n.
-      second.foreign n
-      ∙ ap (λ (b : Bool). b || (is_some (file_among xs n) && not (q.lent n))) (first.foreign n)
-      ∙ ap (λ (b : Bool). (p.foreign n || (is_some (file_among ys n) && not (p.lent n))) || (is_some (file_among xs n) && not b)) (first.lent n)
-      ∙ then_foreign (file_among xs n) (file_among ys n) (p.foreign n) (p.lent n) (apart n)
-      ∙ ap (λ (o : Option FileState). p.foreign n || (is_some o && not (p.lent n))) (sym (file_among-append xs ys n));
+        second.foreign n
+        ∙ ap (λ (b : Bool). b || (is_some (file_among xs n) && not (q.lent n))) (first.foreign n)
+        ∙ ap (λ (b : Bool). (p.foreign n || (is_some (file_among ys n) && not (p.lent n))) || (is_some (file_among xs n) && not b)) (first.lent n)
+        ∙ then_foreign (file_among xs n) (file_among ys n) (p.foreign n) (p.lent n) (apart n)
+        ∙ ap (λ (o : Option FileState). p.foreign n || (is_some o && not (p.lent n))) (sym (file_among-append xs ys n));
     created = λ n. second.created n ∙ first.created n;
     fixed = λ n.
-      second.fixed n ∙ ap (λ (b : Bool). b && not (is_some (file_among xs n))) (first.fixed n)
-      ∙ then_lent (file_among xs n) (file_among ys n) (p.fixed n)
-      ∙ ap (λ (o : Option FileState). p.fixed n && not (is_some o)) (sym (file_among-append xs ys n));
+        second.fixed n ∙ ap (λ (b : Bool). b && not (is_some (file_among xs n))) (first.fixed n)
+        ∙ then_lent (file_among xs n) (file_among ys n) (p.fixed n)
+        ∙ ap (λ (o : Option FileState). p.fixed n && not (is_some o)) (sym (file_among-append xs ys n));
   }
 
 found_in_one : (c : Chunk) (n : ChunkName) → (file_among (c ∷ []) n ≡ None) ⊎ (c.name ≡ n)
@@ -220,12 +220,12 @@ gives_lane p r lane fits is gives = record {
   created = gives.created;
   clear = record {
     lent = λ n of_class.
-      gives.lent n ∙ ap (λ (b : Bool). b && not (is_some (file_among (chunks lane) n))) (fits.lent n of_class) ∙ not_both (is_some (file_among (chunks lane) n));
+        gives.lent n ∙ ap (λ (b : Bool). b && not (is_some (file_among (chunks lane) n))) (fits.lent n of_class) ∙ not_both (is_some (file_among (chunks lane) n));
     foreign = λ n of_class.
-      gives.foreign n
-      ∙ ap (λ (b : Bool). b || (is_some (file_among (chunks lane) n) && not (p.lent n))) (fits.foreign n of_class)
-      ∙ ap (λ (b : Bool). false || (is_some (file_among (chunks lane) n) && not b)) (fits.lent n of_class)
-      ∙ not_both (is_some (file_among (chunks lane) n));
+        gives.foreign n
+        ∙ ap (λ (b : Bool). b || (is_some (file_among (chunks lane) n) && not (p.lent n))) (fits.foreign n of_class)
+        ∙ ap (λ (b : Bool). false || (is_some (file_among (chunks lane) n) && not b)) (fits.lent n of_class)
+        ∙ not_both (is_some (file_among (chunks lane) n));
     gone = λ n of_class. gives.gone n ∙ none_gone (is_some (file_among (chunks lane) n)) (p.gone n) (fits.gone n of_class);
   };
   others = gives_others lane.class p r (chunks lane) is.class gives;
@@ -234,13 +234,13 @@ gives_lane p r lane fits is gives = record {
 pub lane_given : (class : Class) (full : List Chunk) (t : Option Chunk) (lane : LaneState) → record { class = class; full = full; taking = t } ≡ lane → IsLane (record { class = class; full = full; taking = t }) → (p q r : Port) → GivesEach p q (option_to_list t) → GivesEach q r full → FitsPort p lane → GivesLane p r lane
 lane_given class full t lane view is p q r first second =
     subst (λ (l : LaneState). FitsPort p l → GivesLane p r l) view
-      (λ fits. gives_lane p r (record { class = class; full = full; taking = t }) fits is
-        (gives_then p q r full (option_to_list t) first second (once_apart full t fits.once)))
+    (λ fits. gives_lane p r (record { class = class; full = full; taking = t }) fits is
+    (gives_then p q r full (option_to_list t) first second (once_apart full t fits.once)))
 
 pub full_once : (class : Class) (full : List Chunk) (t : Option Chunk) (lane : LaneState) → record { class = class; full = full; taking = t } ≡ lane → (p : Port) → FitsPort p lane → AllPairs (λ a b. a.name ≢ b.name) full
 full_once class full t lane view p =
     subst (λ (l : LaneState). FitsPort p l → AllPairs (λ a b. a.name ≢ b.name) full) view
-      (λ fits. once_front full (option_to_list t) fits.once)
+    (λ fits. once_front full (option_to_list t) fits.once)
 
 pub gives_one : (p r : Port) (o : Option Chunk) (c : Chunk) → o ≡ Some c → Gives p r c.name c.file → GivesEach p r (option_to_list o)
 gives_one p r o c is gives =

@@ -44,7 +44,7 @@ told_same tells c d told is =
 pub lane_follows : (lane after : LaneState) → after.class ≡ lane.class → AllZip SameName (chunks lane) (chunks after) → All (λ c. c.torn ≡ false) after.full → IsLane lane → IsLane after
 lane_follows lane after class zip whole is = record {
   class = zip_all SameName (λ c. class_of_kind c.name.kind ≡ lane.class) (λ c. class_of_kind c.name.kind ≡ after.class)
-    (λ c d name of_class. ap (λ (n : ChunkName). class_of_kind n.kind) name ∙ of_class ∙ sym class) (chunks lane) (chunks after) zip is.class;
+      (λ c d name of_class. ap (λ (n : ChunkName). class_of_kind n.kind) name ∙ of_class ∙ sym class) (chunks lane) (chunks after) zip is.class;
   whole = whole;
 }
 
@@ -66,7 +66,7 @@ appends_file tells (Err Memory) c d bytes told h is_file = subst IsFile (sym (h.
 last_told : (p q : Port) (class : Class) (full : List Chunk) (c d : Chunk) (f : FileState) → SamePort p q → file_among full c.name ≡ None → d.name ≡ c.name → d.file ≡ f → ChangesAt (seen p (with_taking class full c)) (seen q (with_taking class full d)) c.name (Some f)
 last_told p q class full c d f same none name file =
     subst (λ (g : FileState). ChangesAt (seen p (with_taking class full c)) (seen q (with_taking class full d)) c.name (Some g)) file
-      (seen_changes (file_among (full ++ c ∷ [])) (file_among (full ++ d ∷ [])) p.held q.held c.name d.file (last_changes full c d name none) same.held)
+    (seen_changes (file_among (full ++ c ∷ [])) (file_among (full ++ d ∷ [])) p.held q.held c.name d.file (last_changes full c d name none) same.held)
 
 appends_seen : (p q : Port) (class : Class) (full : List Chunk) (c d : Chunk) (tells : Bool) (r : Result ℕ FolderRefusal) (bytes : List ℕ) → SamePort p q → file_among full c.name ≡ None → tells ≡ true → Appends tells r c d bytes → AppendsToFile r (seen p (with_taking class full c)) (seen q (with_taking class full d)) c bytes
 appends_seen p q class full c d tells (Ok offset) bytes same none told h =
@@ -75,7 +75,7 @@ appends_seen p q class full c d tells (Err Fault) bytes same none told h =
     ((h.file told).0, last_told p q class full c d (with_bytes c.file (take (h.file told).0 bytes)) same none h.name (h.file told).1)
 appends_seen p q class full c d tells (Err Memory) bytes same none told h =
     seen_same (file_among (full ++ c ∷ [])) (file_among (full ++ d ∷ [])) p.held q.held
-      (λ n. ap (λ (x : Chunk). file_among (full ++ x ∷ []) n) (told_same tells c d told h)) same.held
+    (λ n. ap (λ (x : Chunk). file_among (full ++ x ∷ []) n) (told_same tells c d told h)) same.held
 
 last_holds : (cs : List Chunk) (x : Chunk) (k : Class) → All (λ y. class_of_kind y.name.kind ≡ k) (cs ++ x ∷ []) → class_of_kind x.name.kind ≡ k
 last_holds cs x k all = All-contains (λ y. class_of_kind y.name.kind ≡ k) (cs ++ x ∷ []) x all (Contains-push cs x)
@@ -97,7 +97,7 @@ module _ (class : Class) (full : List Chunk) (t : Option Chunk) (c d : Chunk) (i
   appends_lane : (tells : Bool) (r : Result ℕ FolderRefusal) (bytes : List ℕ) → Appends tells r c d bytes → IsLane (with_taking class full c) → IsLane (with_taking class full d)
   appends_lane tells r bytes h was =
       lane_follows (with_taking class full c) (with_taking class full d) refl
-        (zip_append SameName full full (c ∷ []) (d ∷ []) (zip_same SameName (λ x. refl) full) (appends_name tells r c d bytes h, tt)) was.whole was
+      (zip_append SameName full full (c ∷ []) (d ∷ []) (zip_same SameName (λ x. refl) full) (appends_name tells r c d bytes h, tt)) was.whole was
 
   pub appended_lane : (tells : Bool) (r : Result ℕ FolderRefusal) (bytes : List ℕ) → Appends tells r c d bytes → IsLane (record { class = class; full = full; taking = t }) → IsLane (with_taking class full d)
   appended_lane tells r bytes h lane = appends_lane tells r bytes h (subst IsLane taken lane)
@@ -109,12 +109,12 @@ module _ (class : Class) (full : List Chunk) (t : Option Chunk) (c d : Chunk) (i
     pub appended_files : FitsPort p lane → IfSome lane.taking (λ x. AppendsToFile r (seen p lane) (seen q (with_taking class full d)) x bytes)
     appended_files =
         subst (λ (l : LaneState). FitsPort p l → IfSome l.taking (λ x. AppendsToFile r (seen p l) (seen q (with_taking class full d)) x bytes)) is_lane
-          (λ fits. appends_seen p q class full c d tells r bytes same (once_before full c [] fits.once) told h)
+        (λ fits. appends_seen p q class full c d tells r bytes same (once_before full c [] fits.once) told h)
 
     pub appended_fits : FitsPort p lane → FitsPort q (with_taking class full d)
     appended_fits =
         subst (λ (l : LaneState). FitsPort p l → FitsPort q (with_taking class full d)) is_lane
-          (λ fits. fits_follows p q (with_taking class full c) (with_taking class full d) same refl
-            (zip_append Follows full full (c ∷ []) (d ∷ []) (zip_same Follows follows_same full)
-              (record { name = appends_name tells r c d bytes h; file = appends_file tells r c d bytes told h }, tt))
-            (appends_lane tells r bytes h fits.lawful) fits)
+        (λ fits. fits_follows p q (with_taking class full c) (with_taking class full d) same refl
+        (zip_append Follows full full (c ∷ []) (d ∷ []) (zip_same Follows follows_same full)
+        (record { name = appends_name tells r c d bytes h; file = appends_file tells r c d bytes told h }, tt))
+        (appends_lane tells r bytes h fits.lawful) fits)

@@ -75,21 +75,21 @@ module _ (tells : Bool) (lane after : LaneState) (each : EachChunk (IsKept tells
   pub kept_lane : IsLane lane → IsLane after
   kept_lane is =
       lane_follows lane after each.class
-        (zip_weaker (IsKept tells) SameName (λ c d kept. kept.name) (chunks lane) (chunks after) (each_zip (IsKept tells) lane after each))
-        (zip_all (IsKept tells) (λ c. c.torn ≡ false) (λ d. d.torn ≡ false) (λ c d kept whole. kept.torn ∙ whole) lane.full after.full each.full is.whole)
-        is
+      (zip_weaker (IsKept tells) SameName (λ c d kept. kept.name) (chunks lane) (chunks after) (each_zip (IsKept tells) lane after each))
+      (zip_all (IsKept tells) (λ c. c.torn ≡ false) (λ d. d.torn ≡ false) (λ c d kept whole. kept.torn ∙ whole) lane.full after.full each.full is.whole)
+      is
 
   pub kept_files : (p q : Port) → tells ≡ true → SamePort p q → FitsPort p lane → EachRises (seen p lane) (seen q after)
   kept_files p q told same fits =
       seen_rises (file_among (chunks lane)) (file_among (chunks after)) p.held q.held
-        (rises_among (chunks lane) (chunks after)
-          (zip_with_all (IsKept tells) RisesTo (λ c. IsFile c.file) (kept_rises tells told) (chunks lane) (chunks after) (each_zip (IsKept tells) lane after each) fits.files))
-        same.held
+      (rises_among (chunks lane) (chunks after)
+      (zip_with_all (IsKept tells) RisesTo (λ c. IsFile c.file) (kept_rises tells told) (chunks lane) (chunks after) (each_zip (IsKept tells) lane after each) fits.files))
+      same.held
 
   pub kept_fits : (p q : Port) → tells ≡ true → SamePort p q → FitsPort p lane → FitsPort q after
   kept_fits p q told same fits =
       fits_follows p q lane after same each.class
-        (zip_weaker (IsKept tells) Follows (kept_follows tells told) (chunks lane) (chunks after) (each_zip (IsKept tells) lane after each)) (kept_lane fits.lawful) fits
+      (zip_weaker (IsKept tells) Follows (kept_follows tells told) (chunks lane) (chunks after) (each_zip (IsKept tells) lane after each)) (kept_lane fits.lawful) fits
 
 -- ---- a lane that was synced, or in part
 
@@ -110,14 +110,14 @@ synced_durable tells c d is = record {
 pub syncs_durable : (tells : Bool) (r : Result (Unit {0}) FolderRefusal) (lane after : LaneState) → SyncsLane tells r lane after → OnOk r (All (λ c. IsSynced tells c) (chunks after))
 syncs_durable tells (Ok done) lane after each =
     zip_all (λ c d. IsTold tells (synced c) d) (λ c. Unit {0}) (λ c. IsSynced tells c) (λ c d is _. synced_durable tells c d is)
-      (chunks lane) (chunks after) (each_zip (λ c d. IsTold tells (synced c) d) lane after each) (λ k d inside. tt)
+    (chunks lane) (chunks after) (each_zip (λ c d. IsTold tells (synced c) d) lane after each) (λ k d inside. tt)
 syncs_durable tells (Err e) lane after each = tt
 
 module _ (class : Class) (full : List Chunk) (t : Option Chunk) (lane : LaneState) (view : record { class = class; full = full; taking = t } ≡ lane) (now changed : List Chunk) (u : Option Chunk) (is : now ≡ changed) where
   each_from : (R : Chunk → Chunk → Type 0) → AllZip R full changed → AllZip R (option_to_list t) (option_to_list u) → EachChunk R lane (record { class = class; full = now; taking = u })
   each_from R front back =
       subst (λ (l : LaneState). EachChunk R l (record { class = class; full = now; taking = u })) view
-        (record { class = refl; full = subst (λ (cs : List Chunk). AllZip R full cs) (sym is) front; taking = back })
+      (record { class = refl; full = subst (λ (cs : List Chunk). AllZip R full cs) (sym is) front; taking = back })
 
   pub lane_synced : (tells : Bool) (r : Result (Unit {0}) FolderRefusal) → AllZip (λ c d. IsTold tells (synced c) d) full changed → SyncsEach tells r (option_to_list t) (option_to_list u) → SyncsLane tells r lane (record { class = class; full = now; taking = u })
   lane_synced tells (Ok done) front back = each_from (λ c d. IsTold tells (synced c) d) front back
@@ -133,4 +133,4 @@ module _ (class : Class) (full : List Chunk) (t : Option Chunk) (lane : LaneStat
 pub lane_stopped : (class : Class) (full : List Chunk) (t : Option Chunk) (lane : LaneState) → record { class = class; full = full; taking = t } ≡ lane → (now changed : List Chunk) → now ≡ changed → (tells : Bool) (e : FolderRefusal) (r : Result (Unit {0}) FolderRefusal) → r ≡ Err e → AllZip (λ c d. IsKept tells c d) full changed → SyncsLane tells r lane (record { class = class; full = now; taking = t })
 lane_stopped class full t lane view now changed is tells e r refused front =
     subst (λ (x : Result (Unit {0}) FolderRefusal). SyncsLane tells x lane (record { class = class; full = now; taking = t })) (sym refused)
-      (each_from class full t lane view now changed t is (λ c d. IsKept tells c d) front (zip_same (λ c d. IsKept tells c d) (kept_itself tells) (option_to_list t)))
+    (each_from class full t lane view now changed t is (λ c d. IsKept tells c d) front (zip_same (λ c d. IsKept tells c d) (kept_itself tells) (option_to_list t)))

@@ -61,7 +61,7 @@ module _ (all rest given : List Chunk) (c : Chunk) (split : all ≡ rest ++ c �
   pub seal_left : (r : Result (Unit {0}) FolderRefusal) (e : FolderRefusal) → r ≡ Err e → LeavesFull r all rest
   seal_left r e refused =
       subst (λ (x : Result (Unit {0}) FolderRefusal). LeavesFull x all rest) (sym refused)
-        (length rest, sym (ap (take (length rest)) split ∙ take_at rest (c ∷ given) (length rest) refl))
+      (length rest, sym (ap (take (length rest)) split ∙ take_at rest (c ∷ given) (length rest) refl))
 
 -- ---- files that are settled
 
@@ -94,14 +94,16 @@ settles_among (x ∷ xs) (y ∷ ys) zip n =
 
 sealed_settles : (cs : List Chunk) → All (λ c. IsFile c.file) cs → AllZip SettlesTo cs (sealed_chunks cs)
 sealed_settles [] all = tt
-sealed_settles (c ∷ cs) all =
-    (record {
-      name = refl;
-      file = record {
-        keeps = record { bytes = refl; front = all 0 c (omega arith); named = λ named. refl };
-        durable = record { front = refl; named = refl };
-      };
-    }, sealed_settles cs (All-tail (λ c. IsFile c.file) c cs all))
+sealed_settles (c ∷ cs) all = (
+  record {
+    name = refl;
+    file = record {
+      keeps = record { bytes = refl; front = all 0 c (omega arith); named = λ named. refl };
+      durable = record { front = refl; named = refl };
+    };
+  },
+  sealed_settles cs (All-tail (λ c. IsFile c.file) c cs all),
+)
 
 named_settles : (f : FileState) → f.front ≡ length f.bytes → Settled f (named_file f)
 named_settles f front = record {
@@ -128,7 +130,7 @@ settles_rises (Some f) (Some g) settles = settles.keeps
 settled_rises : (x u y z h : Option FileState) → Settles x u → Settles y z → (is_some x ≡ true → y ≡ None) → Rises (either_file (either_file x y) h) (either_file z (either_file u h))
 settled_rises None u y z h first second apart =
     rises_beside y z h (either_file u h) (settles_rises y z second)
-      (subst (λ (o : Option FileState). Rises h (either_file o h)) (sym first) (rises_same h))
+    (subst (λ (o : Option FileState). Rises h (either_file o h)) (sym first) (rises_same h))
 settled_rises (Some f) None y z h first second apart = absurd first
 settled_rises (Some f) (Some g) y z h first second apart =
     subst (λ (o : Option FileState). IsSomeAnd (either_file o (Some g)) (KeepsMore f)) (sym (none_after y z second (apart refl))) first.keeps
@@ -183,10 +185,10 @@ left_all P (Err e) old new left all = subst (λ (cs : List Chunk). All P cs) (sy
 pub settled_lane : (class : Class) (full now : List Chunk) (t u : Option Chunk) (tells : Bool) (r : Result (Unit {0}) FolderRefusal) → LeavesFull r full now → AllZip (λ c d. IsTold tells (marked c) d) (option_to_list t) (option_to_list u) → IsLane (lane_of class full t) → IsLane (lane_of class now u)
 settled_lane class full now t u tells r left marks is = record {
   class =
-    All-append (λ c. class_of_kind c.name.kind ≡ class) now (option_to_list u)
+      All-append (λ c. class_of_kind c.name.kind ≡ class) now (option_to_list u)
       (left_all (λ c. class_of_kind c.name.kind ≡ class) r full now left (all_front (λ c. class_of_kind c.name.kind ≡ class) full (option_to_list t) is.class))
       (zip_all (λ c d. IsTold tells (marked c) d) (λ c. class_of_kind c.name.kind ≡ class) (λ c. class_of_kind c.name.kind ≡ class) (λ c d marked of. ap (λ (n : ChunkName). class_of_kind n.kind) marked.name ∙ of) (option_to_list t) (option_to_list u) marks
-        (all_back (λ c. class_of_kind c.name.kind ≡ class) full (option_to_list t) is.class));
+      (all_back (λ c. class_of_kind c.name.kind ≡ class) full (option_to_list t) is.class));
   whole = left_all (λ c. c.torn ≡ false) r full now left is.whole;
 }
 
@@ -199,7 +201,7 @@ module _ (class : Class) (full : List Chunk) (t u : Option Chunk) (tells : Bool)
   back_zip : AllZip SettlesTo (option_to_list t) (option_to_list u)
   back_zip =
       zip_with_all (λ c d. IsTold tells (marked c) d) SettlesTo (λ c. IsSynced tells c) (marked_settles tells told) (option_to_list t) (option_to_list u) marks
-        (all_back (λ c. IsSynced tells c) full (option_to_list t) synced)
+      (all_back (λ c. IsSynced tells c) full (option_to_list t) synced)
 
   back : (n : ChunkName) → Settles (file_among (option_to_list t) n) (file_among (option_to_list u) n)
   back = settles_among (option_to_list t) (option_to_list u) back_zip
@@ -213,17 +215,17 @@ module _ (class : Class) (full : List Chunk) (t u : Option Chunk) (tells : Bool)
   settled_port : All (λ c. class_of_kind c.name.kind ≡ class) full → SettlesPort p q (lane_of class full t) (lane_of class [] u)
   settled_port of_class = record {
     rises = λ n.
-      subst (λ (o : Option FileState). Rises (either_file o (p.held n)) (either_file (file_among (option_to_list u) n) (q.held n))) (sym (file_among-append full (option_to_list t) n))
+        subst (λ (o : Option FileState). Rises (either_file o (p.held n)) (either_file (file_among (option_to_list u) n) (q.held n))) (sym (file_among-append full (option_to_list t) n))
         (subst (λ (o : Option FileState). Rises (either_file (either_file (file_among full n) (file_among (option_to_list t) n)) (p.held n)) (either_file (file_among (option_to_list u) n) o)) (sym (gives.held n))
-          (settled_rises (file_among full n) (file_among (sealed_chunks full) n) (file_among (option_to_list t) n) (file_among (option_to_list u) n) (p.held n) (front n) (back n) (apart n)));
+        (settled_rises (file_among full n) (file_among (sealed_chunks full) n) (file_among (option_to_list t) n) (file_among (option_to_list u) n) (p.held n) (front n) (back n) (apart n)));
     durable = λ n found.
-      subst (λ (o : Option FileState). IsSomeAnd (either_file (file_among (option_to_list u) n) o) IsDurable) (sym (gives.held n))
+        subst (λ (o : Option FileState). IsSomeAnd (either_file (file_among (option_to_list u) n) o) IsDurable) (sym (gives.held n))
         (settled_durable (file_among full n) (file_among (sealed_chunks full) n) (file_among (option_to_list t) n) (file_among (option_to_list u) n) (p.held n) (front n) (back n) (apart n)
-          (ap is_some (sym (file_among-append full (option_to_list t) n)) ∙ found));
+        (ap is_some (sym (file_among-append full (option_to_list t) n)) ∙ found));
     held = λ n none. gives.held n ∙ ap (λ (o : Option FileState). either_file o (p.held n)) (sealed_absent full n none);
     created = gives.created;
     others =
-      gives_others class p q (sealed_chunks full)
+        gives_others class p q (sealed_chunks full)
         (zip_all SameName (λ c. class_of_kind c.name.kind ≡ class) (λ c. class_of_kind c.name.kind ≡ class) (λ c d name of. ap (λ (n : ChunkName). class_of_kind n.kind) name ∙ of) full (sealed_chunks full) (sealed_names full) of_class)
         gives;
   }
@@ -244,7 +246,7 @@ module _ (class : Class) (full : List Chunk) (t u : Option Chunk) (tells : Bool)
   settled_fixable n lent =
       let was = still_lent n lent in
       let fixed : q.fixed n ≡ p.fixed n =
-        gives.fixed n ∙ ap (λ (o : Option FileState). p.fixed n && not (is_some o)) (sealed_absent full n was.1) ∙ sym (and_true (p.fixed n)) in
+      gives.fixed n ∙ ap (λ (o : Option FileState). p.fixed n && not (is_some o)) (sealed_absent full n was.1) ∙ sym (and_true (p.fixed n)) in
       let same : q.lent n ≡ p.lent n = lent ∙ sym was.0 in
       cc (fixed, same, gives.created n)
 
@@ -254,19 +256,19 @@ module _ (class : Class) (full : List Chunk) (t u : Option Chunk) (tells : Bool)
     once = option_once u;
     files = zip_all SettlesTo (λ c. IsFile c.file) (λ c. IsFile c.file) (λ c d settles is_file. settled_file settles.file) (option_to_list t) (option_to_list u) back_zip (all_back (λ c. IsFile c.file) full (option_to_list t) fits.files);
     lent = λ n of_class.
-      now_lent n ∙ ap (λ (b : Bool). b && not (is_some (file_among full n))) (was_lent n of_class)
-      ∙ left_lent (file_among full n) (file_among (option_to_list t) n) (apart n)
-      ∙ sym (settles_found (file_among (option_to_list t) n) (file_among (option_to_list u) n) (back n));
+        now_lent n ∙ ap (λ (b : Bool). b && not (is_some (file_among full n))) (was_lent n of_class)
+        ∙ left_lent (file_among full n) (file_among (option_to_list t) n) (apart n)
+        ∙ sym (settles_found (file_among (option_to_list t) n) (file_among (option_to_list u) n) (back n));
     held = λ n of_class lent.
-      let was = still_lent n lent in
-      gives.held n ∙ ap (λ (o : Option FileState). either_file o (p.held n)) (sealed_absent full n was.1) ∙ fits.held n of_class was.0;
+        let was = still_lent n lent in
+        gives.held n ∙ ap (λ (o : Option FileState). either_file o (p.held n)) (sealed_absent full n was.1) ∙ fits.held n of_class was.0;
     fixable = λ n of_class lent. settled_fixable n lent ∙ fits.fixable n of_class (still_lent n lent).0;
     foreign = λ n of_class.
-      gives.foreign n
-      ∙ ap (λ (b : Bool). b || (is_some (file_among (sealed_chunks full) n) && not (p.lent n))) (fits.foreign n of_class)
-      ∙ ap (λ (b : Bool). false || (b && not (p.lent n))) (found_full n)
-      ∙ ap (λ (b : Bool). false || (is_some (file_among full n) && not b)) (was_lent n of_class)
-      ∙ left_foreign (file_among full n) (file_among (option_to_list t) n);
+        gives.foreign n
+        ∙ ap (λ (b : Bool). b || (is_some (file_among (sealed_chunks full) n) && not (p.lent n))) (fits.foreign n of_class)
+        ∙ ap (λ (b : Bool). false || (b && not (p.lent n))) (found_full n)
+        ∙ ap (λ (b : Bool). false || (is_some (file_among full n) && not b)) (was_lent n of_class)
+        ∙ left_foreign (file_among full n) (file_among (option_to_list t) n);
     gone = λ n of_class. gives.gone n ∙ none_gone (is_some (file_among (sealed_chunks full) n)) (p.gone n) (fits.gone n of_class);
   }
 
@@ -274,14 +276,14 @@ module _ (class : Class) (full now : List Chunk) (t u : Option Chunk) (before : 
   pub settles_port : IsLane (record { class = class; full = full; taking = t }) → FitsPort p before → All (λ c. IsSynced tells c) (chunks before) → SettlesPort p q before (record { class = class; full = now; taking = u })
   settles_port is =
       subst (λ (cs : List Chunk). FitsPort p before → All (λ c. IsSynced tells c) (chunks before) → SettlesPort p q before (record { class = class; full = cs; taking = u })) (sym (left_none r full now ok left))
-        (subst (λ (l : LaneState). FitsPort p l → All (λ c. IsSynced tells c) (chunks l) → SettlesPort p q l (lane_of class [] u)) view
-          (λ fits synced. settled_port class full t u tells told p q fits gives marks synced (all_front (λ c. class_of_kind c.name.kind ≡ class) full (option_to_list t) is.class)))
+      (subst (λ (l : LaneState). FitsPort p l → All (λ c. IsSynced tells c) (chunks l) → SettlesPort p q l (lane_of class [] u)) view
+      (λ fits synced. settled_port class full t u tells told p q fits gives marks synced (all_front (λ c. class_of_kind c.name.kind ≡ class) full (option_to_list t) is.class)))
 
   pub settles_fits : FitsPort p before → All (λ c. IsSynced tells c) (chunks before) → FitsPort q (record { class = class; full = now; taking = u })
   settles_fits =
       subst (λ (cs : List Chunk). FitsPort p before → All (λ c. IsSynced tells c) (chunks before) → FitsPort q (record { class = class; full = cs; taking = u })) (sym (left_none r full now ok left))
-        (subst (λ (l : LaneState). FitsPort p l → All (λ c. IsSynced tells c) (chunks l) → FitsPort q (lane_of class [] u)) view
-          (λ fits synced. settled_fits class full t u tells told p q fits gives marks synced))
+      (subst (λ (l : LaneState). FitsPort p l → All (λ c. IsSynced tells c) (chunks l) → FitsPort q (lane_of class [] u)) view
+      (λ fits synced. settled_fits class full t u tells told p q fits gives marks synced))
 
 -- what holds of all chunks holds of the full ones
 pub all_full : (P : Chunk → Type 0) (class : Class) (full : List Chunk) (t : Option Chunk) (before : LaneState) → record { class = class; full = full; taking = t } ≡ before → All P (chunks before) → All P full

@@ -85,7 +85,7 @@ module _ (tells : Bool) (old now : List Chunk) (i : ℕ) (c d : Chunk) (inside :
   pub front_more : IsTold tells (synced c) d → AllZip (λ x y. IsTold tells (synced x) y) (take (i + 1) old) (take (i + 1) (set now i d))
   front_more is =
       subst (λ (cs : List Chunk). AllZip (λ x y. IsTold tells (synced x) y) (take (i + 1) old) cs) (sym (take_more_set now i d (omega arith)))
-        (all_zip_more (λ (x : Chunk) (y : Chunk). IsTold tells (synced x) y) old (take i now) i c d inside read_old front is)
+      (all_zip_more (λ (x : Chunk) (y : Chunk). IsTold tells (synced x) y) old (take i now) i c d inside read_old front is)
 
   -- the folder refused this one
   pub stopped : IsTold tells c d → AllZip (λ x y. IsKept tells x y) old (set now i d)
@@ -97,7 +97,7 @@ module _ (tells : Bool) (old now : List Chunk) (i : ℕ) (c d : Chunk) (inside :
       let behind = subst (λ (cs : List Chunk). AllZip R (drop (i + 1) old) cs) (sym rest_more) (zip_same R (kept_itself tells) (drop (i + 1) old)) in
       let whole = zip_append R (take (i + 1) old) (take (i + 1) (set now i d)) (drop (i + 1) old) (drop (i + 1) (set now i d)) here behind in
       subst (λ (cs : List Chunk). AllZip R cs (set now i d)) (take-append-drop (i + 1) old)
-        (subst (λ (cs : List Chunk). AllZip R (take (i + 1) old ++ drop (i + 1) old) cs) (take-append-drop (i + 1) (set now i d)) whole)
+      (subst (λ (cs : List Chunk). AllZip R (take (i + 1) old ++ drop (i + 1) old) cs) (take-append-drop (i + 1) (set now i d)) whole)
 
   pub same_more : d ≡ c → set now i d ≡ now
   same_more same =
@@ -106,7 +106,7 @@ module _ (tells : Bool) (old now : List Chunk) (i : ℕ) (c d : Chunk) (inside :
 pub all_synced : (tells : Bool) (old now : List Chunk) (i : ℕ) → length old ≤ i → length now ≡ length old → AllZip (λ x y. IsTold tells (synced x) y) (take i old) (take i now) → AllZip (λ x y. IsTold tells (synced x) y) old now
 all_synced tells old now i past long zip =
     subst (λ (cs : List Chunk). AllZip (λ x y. IsTold tells (synced x) y) cs now) (take_all i old past)
-      (subst (λ (cs : List Chunk). AllZip (λ x y. IsTold tells (synced x) y) (take i old) cs) (take_all i now (omega arith)) zip)
+    (subst (λ (cs : List Chunk). AllZip (λ x y. IsTold tells (synced x) y) (take i old) cs) (take_all i now (omega arith)) zip)
 
 -- ---- counts of calls that the disk refuses none of
 

@@ -188,7 +188,10 @@ fn sync_each<F: Folder>(full: &mut [AnyFull<F>], port: &mut F) -> Result<(), Fol
 }
 
 /// Makes the bytes of the chunk's file durable, where there is a chunk.
-fn sync_taking<F: Folder>(taking: &mut Option<AnyFilling<F>>, port: &mut F) -> Result<(), FolderRefusal>
+fn sync_taking<F: Folder>(
+    taking: &mut Option<AnyFilling<F>>,
+    port: &mut F,
+) -> Result<(), FolderRefusal>
     ensures synced { SyncsEach F.tells result (option_to_list taking.old) (option_to_list taking.new) }
     ensures idle { All (λ chunk. chunk.unsynced ≡ false) (option_to_list taking.old)
         → IsOk result × (taking.new ≡ taking.old) × (port.new ≡ port.old) }

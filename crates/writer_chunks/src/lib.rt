@@ -8,3 +8,6 @@ mod lane;
 pub mod laws;
 
 pub use lane::Lane;
+
+#[cfg(test)]
+mod tests;

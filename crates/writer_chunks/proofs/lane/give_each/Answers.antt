@@ -19,7 +19,7 @@ loop-chunk-preserved g c =
       given = c.in-Some.chunk ∷ i.given;
       split = split;
       gives = λ told.
-        gives_more (g.F.Folder.port c.args.port.now) (g.F.Folder.port c.loop-chunk.port) (g.F.Folder.port c.give.new.port) c.in-Some.chunk i.given (i.gives told) (c.give.ensures.given told)
+          gives_more (g.F.Folder.port c.args.port.now) (g.F.Folder.port c.loop-chunk.port) (g.F.Folder.port c.give.new.port) c.in-Some.chunk i.given (i.gives told) (c.give.ensures.given told)
           (split_none c.args.full.items c.pop.new.self.items i.given c.in-Some.chunk split (c.requires told));
       counts = counts_then g.F.Folder false c.args.port.now c.loop-chunk.port c.give.new.port i.counts (counts_given g.F.Folder c.loop-chunk.port c.give.new.port c.in-Some.chunk.name c.in-Some.chunk.file c.give.ensures);
     }

@@ -37,6 +37,6 @@ loop-chunk-preserved g c =
       given = c.in-Some.chunk ∷ i.given;
       split = split;
       gives = λ told.
-        seal_more c.args.full.now.items c.pop.new.self.items i.given c.in-Some.chunk split (g.F.Folder.port c.args.port.now) (g.F.Folder.port c.loop-chunk.port) (g.F.Folder.port c.seal_and_give.new.port) (c.requires.once told) (i.gives told) (c.seal_and_give.ensures.given told);
+          seal_more c.args.full.now.items c.pop.new.self.items i.given c.in-Some.chunk split (g.F.Folder.port c.args.port.now) (g.F.Folder.port c.loop-chunk.port) (g.F.Folder.port c.seal_and_give.new.port) (c.requires.once told) (i.gives told) (c.seal_and_give.ensures.given told);
       counts = counts_then g.F.Folder false c.args.port.now c.loop-chunk.port c.seal_and_give.new.port i.counts c.in_ok-seal_and_give.ensures.counts;
     }

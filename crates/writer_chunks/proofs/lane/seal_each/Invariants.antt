@@ -9,7 +9,7 @@ invariant-loop-chunk g l = record {
   given : List Chunk;
   split : l.initial.full.items ≡ l.full.items ++ given;
   gives : g.F.Folder.tells ≡ true → GivesEach (g.F.Folder.port l.initial.port) (g.F.Folder.port l.port) (sealed_chunks given);
-  counts : Counts g.F.Folder false l.initial.port l.port
+  counts : Counts g.F.Folder false l.initial.port l.port;
 }
 
 abbrev pub decreases-loop-chunk : goal.decreases-loop-chunk

@@ -20,7 +20,7 @@ returns-in_err-sync-clause-port g c =
     let e = err_from_is_err_and c.from_residual.result c.from_residual.ensures.1 in
     let same = ap is_fault (e.1 ∙ ap (λ (x : FolderRefusal). Err x) e.2) in
     subst (λ (b : Bool). LeavesPort g.F.Folder b c.args.port.now c.sync.new.port) (sym same)
-      (leaves_then g.F.Folder _ c.args.port.now c.loop-chunk.port c.sync.new.port c.loop-chunk.invariant.port c.in_err-sync.ensures.port)
+    (leaves_then g.F.Folder _ c.args.port.now c.loop-chunk.port c.sync.new.port c.loop-chunk.invariant.port c.in_err-sync.ensures.port)
 
 pub loop-chunk-preserved : goal.loop-chunk-preserved
 loop-chunk-preserved g c =
@@ -31,12 +31,12 @@ loop-chunk-preserved g c =
       synced = zip;
       rest = rest;
       idle = λ all.
-        let same = i.idle all in
-        let none : (get_or c.loop-chunk.full c.loop-chunk.chunk-index c.chunk-item.result).unsynced ≡ false =
+          let same = i.idle all in
+          let none : (get_or c.loop-chunk.full c.loop-chunk.chunk-index c.chunk-item.result).unsynced ≡ false =
           ap (λ (x : Chunk). x.unsynced) (read_old g.F.Folder.tells c.args.full.now c.loop-chunk.full c.loop-chunk.chunk-index (get_or c.loop-chunk.full c.loop-chunk.chunk-index c.chunk-item.result) c.sync.new.self (omega arith) (omega arith) (reads c.loop-chunk.full c.loop-chunk.chunk-index c.chunk-item.result (omega arith)) i.synced i.rest)
           ∙ all c.loop-chunk.chunk-index (get_or c.loop-chunk.full c.loop-chunk.chunk-index c.chunk-item.result) (omega arith) in
-        let kept = c.in_ok-sync.ensures.idle none in
-        (same_more g.F.Folder.tells c.args.full.now c.loop-chunk.full c.loop-chunk.chunk-index (get_or c.loop-chunk.full c.loop-chunk.chunk-index c.chunk-item.result) c.sync.new.self (omega arith) (omega arith) (reads c.loop-chunk.full c.loop-chunk.chunk-index c.chunk-item.result (omega arith)) i.synced i.rest kept.1 ∙ same.0, kept.2 ∙ same.1);
+          let kept = c.in_ok-sync.ensures.idle none in
+          (same_more g.F.Folder.tells c.args.full.now c.loop-chunk.full c.loop-chunk.chunk-index (get_or c.loop-chunk.full c.loop-chunk.chunk-index c.chunk-item.result) c.sync.new.self (omega arith) (omega arith) (reads c.loop-chunk.full c.loop-chunk.chunk-index c.chunk-item.result (omega arith)) i.synced i.rest kept.1 ∙ same.0, kept.2 ∙ same.1);
       port = leaves_then g.F.Folder false c.args.port.now c.loop-chunk.port c.sync.new.port i.port c.in_ok-sync.ensures.port;
     }
 

@@ -9,5 +9,5 @@ invariant-loop-chunk g l = record {
   synced : AllZip (λ c d. IsTold g.F.Folder.tells (synced c) d) (take l.chunk-index l.initial.full) (take l.chunk-index l.full);
   rest : drop l.chunk-index l.full ≡ drop l.chunk-index l.initial.full;
   idle : All (λ c. c.unsynced ≡ false) l.initial.full → (l.full ≡ l.initial.full) × (l.port ≡ l.initial.port);
-  port : LeavesPort g.F.Folder false l.initial.port l.port
+  port : LeavesPort g.F.Folder false l.initial.port l.port;
 }

@@ -12,11 +12,11 @@ invariant_of-self g c =
 pub returns-clause-files : goal.returns-clause-files
 returns-clause-files g c told =
     appended_files c.self.inside.class c.self.inside.full.items c.self.inside.taking c.in-Some.chunk c.append.new.self c.in-Some.is
-      (g.F.Folder.port c.args.port.now) (g.F.Folder.port c.append.new.port) c.args.self.now c.self.view_is (c.append.ensures.port.same told)
-      g.F.Folder.tells told c.append.result c.args.bytes.now c.append.ensures.appended (c.requires.fits told)
+    (g.F.Folder.port c.args.port.now) (g.F.Folder.port c.append.new.port) c.args.self.now c.self.view_is (c.append.ensures.port.same told)
+    g.F.Folder.tells told c.append.result c.args.bytes.now c.append.ensures.appended (c.requires.fits told)
 
 pub returns-clause-fits : goal.returns-clause-fits
 returns-clause-fits g c told =
     appended_fits c.self.inside.class c.self.inside.full.items c.self.inside.taking c.in-Some.chunk c.append.new.self c.in-Some.is
-      (g.F.Folder.port c.args.port.now) (g.F.Folder.port c.append.new.port) c.args.self.now c.self.view_is (c.append.ensures.port.same told)
-      g.F.Folder.tells told c.append.result c.args.bytes.now c.append.ensures.appended (c.requires.fits told)
+    (g.F.Folder.port c.args.port.now) (g.F.Folder.port c.append.new.port) c.args.self.now c.self.view_is (c.append.ensures.port.same told)
+    g.F.Folder.tells told c.append.result c.args.bytes.now c.append.ensures.appended (c.requires.fits told)

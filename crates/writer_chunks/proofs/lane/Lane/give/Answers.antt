@@ -10,8 +10,8 @@ give_each-requires g c told =
 pub returns-clause-given : goal.returns-clause-given
 returns-clause-given g c told =
     lane_given c.self.inside.class c.self.inside.full.items c.self.inside.taking c.args.self c.self.view_is c.self.invariant
-      (g.F.Folder.port c.args.port.now) (g.F.Folder.port c.give_taking.new.port) (g.F.Folder.port c.give_each.new.port)
-      (c.give_taking.ensures.given told) (c.give_each.ensures.given told) (c.requires told)
+    (g.F.Folder.port c.args.port.now) (g.F.Folder.port c.give_taking.new.port) (g.F.Folder.port c.give_each.new.port)
+    (c.give_taking.ensures.given told) (c.give_each.ensures.given told) (c.requires told)
 
 pub returns-clause-counts : goal.returns-clause-counts
 returns-clause-counts g c =

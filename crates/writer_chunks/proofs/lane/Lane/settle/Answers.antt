@@ -23,9 +23,9 @@ invariant_of-self g c =
 pub returns-clause-port : goal.returns-clause-port
 returns-clause-port g c told =
     settles_port c.self.inside.class c.self.inside.full.items c.seal_each.new.full.items c.self.inside.taking c.mark_taking.new.taking c.args.self.now c.self.view_is g.F.Folder.tells told c.seal_each.result (c.seal_each.ensures.answer told) c.seal_each.ensures.left c.mark_taking.ensures
-      (g.F.Folder.port c.args.port.now) (g.F.Folder.port c.seal_each.new.port) (c.seal_each.ensures.given told) c.self.invariant (c.requires.fits told) c.requires.synced
+    (g.F.Folder.port c.args.port.now) (g.F.Folder.port c.seal_each.new.port) (c.seal_each.ensures.given told) c.self.invariant (c.requires.fits told) c.requires.synced
 
 pub returns-clause-fits : goal.returns-clause-fits
 returns-clause-fits g c told =
     settles_fits c.self.inside.class c.self.inside.full.items c.seal_each.new.full.items c.self.inside.taking c.mark_taking.new.taking c.args.self.now c.self.view_is g.F.Folder.tells told c.seal_each.result (c.seal_each.ensures.answer told) c.seal_each.ensures.left c.mark_taking.ensures
-      (g.F.Folder.port c.args.port.now) (g.F.Folder.port c.seal_each.new.port) (c.seal_each.ensures.given told) (c.requires.fits told) c.requires.synced
+    (g.F.Folder.port c.args.port.now) (g.F.Folder.port c.seal_each.new.port) (c.seal_each.ensures.given told) (c.requires.fits told) c.requires.synced
