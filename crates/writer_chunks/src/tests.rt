@@ -107,9 +107,9 @@ fn append(
 }
 
 /// Makes all that is in hand durable, and gives the full chunks back.
-fn settle(lane: &mut Lane<MemFolder>, port: &mut MemFolder) -> Result<(), FolderRefusal>
-    requires fits { FitsPort (⟦<MemFolder as Folder>⟧.port port.old) lane.old }
-    ensures fits { FitsPort (⟦<MemFolder as Folder>⟧.port port.new) lane.new }
+fn settle<F: Folder>(lane: &mut Lane<F>, port: &mut F) -> Result<(), FolderRefusal>
+    requires { F.tells ≡ true → FitsPort (F.port port.old) lane.old }
+    ensures { F.tells ≡ true → FitsPort (F.port port.new) lane.new }
 {
     lane.sync(port)?;
     port.sync_names()?;
@@ -138,19 +138,32 @@ fn write(
 
 /// What a run leaves in the folder, where the disk refuses one call of it.
 #[derive(Drop)]
-struct Row<'a> {
-    name: &'a str,
+struct Row {
+    name: &'static str,
     refused: u64,
     answer: Result<(), FolderRefusal>,
     last: Option<ChunkName>,
-    first: Option<&'a [u8]>,
-    second: Option<&'a [u8]>,
+    /// How many bytes of the first record, and of the second.
+    first: Option<usize>,
+    second: Option<usize>,
 }
 
+/// The length of each record.
+const LEN: usize = 32;
+
+/// So many bytes of a record.
+fn front(bytes: &[u8], len: Option<usize>) -> Option<&[u8]> {
+    match len {
+        Some(len) if len <= bytes.len() => Some(&bytes[..len]),
+        _ => None,
+    }
+}
+
+/// Writes what a row says, and checks what is left.
 fn expect(
     rt: &impl Abort,
     alloc: Global,
-    row: &Row<'_>,
+    row: &Row,
     one: &[u8],
     two: &[u8],
 ) -> Result<(), AllocError>
@@ -163,81 +176,52 @@ fn expect(
     assert_eq!(rt; answer, row.answer, "{}", row.name);
     assert_eq!(rt; lane.name(), row.last, "{}", row.name);
     lane.give(&mut port);
-    assert_eq!(rt; port.bytes(FIRST), row.first, "{}", row.name);
-    assert_eq!(rt; port.bytes(SECOND), row.second, "{}", row.name);
+    assert_eq!(rt; port.bytes(FIRST), front(one, row.first), "{}", row.name);
+    assert_eq!(rt; port.bytes(SECOND), front(two, row.second), "{}", row.name);
     Ok(())
+}
+
+/// A row of a run that the disk refuses a call of.
+fn refused(
+    name: &'static str,
+    refused: u64,
+    last: Option<ChunkName>,
+    first: Option<usize>,
+    second: Option<usize>,
+) -> Row {
+    Row {
+        name,
+        refused,
+        answer: Err(FolderRefusal::Fault),
+        last,
+        first,
+        second,
+    }
 }
 
 #[test]
 fn a_lane_leaves_its_files(rt: HostRuntime) -> Result<(), Fail> {
     let one = spelled(rt.alloc(), Seq(1))?;
     let two = spelled(rt.alloc(), Seq(2))?;
-    let fault = Err(FolderRefusal::Fault);
+    let all = Row {
+        name: "no call",
+        refused: u64::MAX,
+        answer: Ok(()),
+        last: Some(SECOND),
+        first: Some(LEN),
+        second: Some(LEN),
+    };
+    let half = Some(LEN / 2);
+    let whole = Some(LEN);
     let rows = [
-        Row {
-            name: "no call",
-            refused: 0,
-            answer: Ok(()),
-            last: Some(SECOND),
-            first: Some(&one),
-            second: Some(&two),
-        },
-        Row {
-            name: "the first file",
-            refused: 1,
-            answer: fault,
-            last: None,
-            first: None,
-            second: None,
-        },
-        Row {
-            name: "the first record",
-            refused: 2,
-            answer: fault,
-            last: Some(FIRST),
-            first: Some(&one[..16]),
-            second: None,
-        },
-        Row {
-            name: "the second file",
-            refused: 3,
-            answer: fault,
-            last: Some(FIRST),
-            first: Some(&one),
-            second: None,
-        },
-        Row {
-            name: "the second record",
-            refused: 4,
-            answer: fault,
-            last: Some(SECOND),
-            first: Some(&one),
-            second: Some(&two[..16]),
-        },
-        Row {
-            name: "the sync of the first",
-            refused: 5,
-            answer: fault,
-            last: Some(SECOND),
-            first: Some(&one),
-            second: Some(&two),
-        },
-        Row {
-            name: "the sync of the second",
-            refused: 6,
-            answer: fault,
-            last: Some(SECOND),
-            first: Some(&one),
-            second: Some(&two),
-        },
-        Row {
-            name: "the directory sync",
-            refused: 7,
-            answer: fault,
-            last: Some(SECOND),
-            first: Some(&one),
-            second: Some(&two),
-        },
+        all,
+        refused("the first file", 1, None, None, None),
+        refused("the first record", 2, Some(FIRST), half, None),
+        refused("the second file", 3, Some(FIRST), whole, None),
+        refused("the second record", 4, Some(SECOND), whole, half),
+        refused("the first sync", 5, Some(SECOND), whole, whole),
+        refused("the second sync", 6, Some(SECOND), whole, whole),
+        refused("the directory sync", 7, Some(SECOND), whole, whole),
     ];
     for row in &rows {
         expect(&rt, rt.alloc(), row, &one, &two)?;
