@@ -1,0 +1,4 @@
+pub mod AnyChunks
+pub mod Lanes
+pub mod PortFits
+pub mod LaneCalls

@@ -1,0 +1,13 @@
+//! The chunks of one class that a writer has in hand: full ones that wait for the next sync, and the one that takes
+//! records.
+#![tactic(auto)]
+
+mod any_filling;
+mod any_full;
+mod lane;
+pub mod laws;
+
+pub use lane::Lane;
+
+#[cfg(test)]
+mod tests;
