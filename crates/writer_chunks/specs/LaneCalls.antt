@@ -1,28 +1,18 @@
 -- What the calls on a lane make of it, of its port, and of the files of both, by their answers. Clauses on files hold
 -- where the folder tells its content.
-use Rattle.std.specs.Prelude.{◌≡◌, ◌≢◌, ◌⊎◌, ℕ, ◌≤◌, Bool, true, false, ◌&&◌, ◌||◌, not, List, [], length, take, map, Option, Some, None, is_some, option_to_list, IfSome, IsSomeAnd, Result, Ok, Err, if◌then◌else◌}
+use Rattle.std.specs.Prelude.{◌≡◌, ◌⊎◌, ℕ, Bool, true, false, ◌&&◌, ◌||◌, not, List, [], length, take, map, Some, None, is_some, option_to_list, IfSome, IsSomeAnd, Result, Ok, Err, if◌then◌else◌}
 use Rattle.std.specs.List.{AllZip}
 use Rattle.hr_base.specs.declared.name.ChunkName.{ChunkName}
 use Rattle.dir_files.specs.declared.folder.FolderRefusal.{FolderRefusal}
 use Rattle.dir_files.specs.declared.folder.FolderRefusal.TheVariants.{Memory, Fault}
-use Rattle.dir_files.specs.Files.{FileState, Files, new_file, with_bytes, ChangesAt, SameAt}
+use Rattle.dir_files.specs.Files.{Files, IsDurable, Rises, new_file, with_bytes, ChangesAt, SameAt}
 use Rattle.dir_files.specs.Ports.{Port, either_file}
-use Rattle.value_chunk.specs.Chunks.{Chunk, IsDurable}
+use Rattle.value_chunk.specs.Chunks.{Chunk}
 use Rattle.value_chunk.specs.Calls.{IsTold, IsKept, Appends, begun, synced, marked}
 use Rattle.writer_chunks.specs.Lanes.{LaneState, chunks, file_among, seen}
 use Rattle.writer_chunks.specs.PortFits.{IsClearOf, LeavesOthers}
 
 -- ---- files
-
--- a crash keeps of the file what it kept before, or more
-pub record KeepsMore (old new : FileState) : Type 0 where
-  pub bytes : new.bytes ≡ old.bytes
-  pub front : old.front ≤ new.front
-  pub named : old.named ≡ true → new.named ≡ true
-
-abbrev pub Rises : Option FileState → Option FileState → Type 0
-Rises None new = new ≡ None
-Rises (Some old) new = IsSomeAnd new (KeepsMore old)
 
 -- no file comes or goes, and a crash keeps of each what it kept before, or more
 abbrev pub EachRises : Files → Files → Type 0
