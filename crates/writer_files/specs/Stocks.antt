@@ -1,9 +1,11 @@
 -- The files of a partition's writer: three lanes of chunks in hand, and a port.
-use Rattle.std.specs.Prelude.{◌≡◌, ◌≢◌, Bool, true, false, List, [], length, All, Option, Some, None, IfSome}
+use Rattle.std.specs.Prelude.{◌≡◌, ◌≢◌, Bool, true, false, List, [], length, All, Option, Some, None, IfSome, Result, Ok, Err}
 use Rattle.hr_base.specs.declared.name.Class.{Class}
 use Rattle.hr_base.specs.declared.name.Class.TheVariants.{Value, Tomb, Clear}
 use Rattle.hr_base.specs.declared.name.ChunkName.{ChunkName}
 use Rattle.hr_base.specs.Names.{class_of_kind}
+use Rattle.dir_files.specs.declared.folder.FolderRefusal.{FolderRefusal}
+use Rattle.dir_files.specs.declared.folder.FolderRefusal.TheVariants.{Memory, Fault}
 use Rattle.dir_files.specs.Files.{FileState, Files, IsDurable}
 use Rattle.dir_files.specs.Ports.{Port}
 use Rattle.writer_chunks.specs.Lanes.{LaneState, chunks, seen}
@@ -52,3 +54,9 @@ KeepsOthers class old new = (other : Class) → other ≢ class → lane_of new 
 -- all files are durable
 abbrev pub AllDurable : Files → Type 0
 AllDurable files = (name : ChunkName) → IfSome (files name) IsDurable
+
+-- whether a directory sync is due after a file was to be created: the disk may have made one also where it refused
+abbrev pub fresh_after : Result (Unit {0}) FolderRefusal → Bool → Bool
+fresh_after (Ok done) fresh = true
+fresh_after (Err Fault) fresh = true
+fresh_after (Err Memory) fresh = fresh
