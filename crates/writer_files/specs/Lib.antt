@@ -1,2 +1,0 @@
-pub mod Stocks
-pub mod StockViews
