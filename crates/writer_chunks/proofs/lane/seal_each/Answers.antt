@@ -5,7 +5,7 @@ use Rattle.dir_files.specs.declared.folder.FolderRefusal.{FolderRefusal}
 use Rattle.dir_files.specs.Faults.{is_fault}
 use Rattle.dir_files.specs.PortCalls.{Counts}
 use Rattle.writer_chunks.proofs.GiveLaws.{gives_none, split_more}
-use Rattle.writer_chunks.proofs.SettleLaws.{seal_unsynced, seal_fixed, seal_more, seal_left}
+use Rattle.writer_chunks.proofs.SettleLaws.{seal_unsynced, seal_fixed, seal_more}
 use Rattle.writer_chunks.proofs.SyncLaws.{counts_then, counts_none}
 use Rattle.writer_chunks.proofs.lane.seal_each.Goals as goal
 
