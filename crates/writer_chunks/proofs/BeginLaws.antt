@@ -16,7 +16,7 @@ use Rattle.writer_chunks.specs.Lanes.{LaneState, chunks, file_among, seen, IsLan
 use Rattle.writer_chunks.specs.PortFits.{FitsPort, LeavesOthers}
 use Rattle.writer_chunks.specs.LaneCalls.{BeginsFile}
 use Rattle.writer_chunks.proofs.FileLaws.{seen_same, seen_changes, push_changes}
-use Rattle.writer_chunks.proofs.FitLaws.{fits_same, fits_begun, fits_refused, free_absent, others_created, others_refused, others_same}
+use Rattle.writer_chunks.proofs.FitLaws.{fits_same, fits_begun, fits_refused, free_absent}
 
 -- ---- a refusal
 
@@ -53,11 +53,6 @@ refused_files T p q lane after name e r refused same begins class free fits =
     subst (λ (l : LaneState). BeginsFile r (seen p lane) (seen q l) name) (sym same)
     (subst (λ (x : Result (Unit {0}) FolderRefusal). BeginsFile x (seen p lane) (seen q lane) name) (sym refused)
     (refused_files_same T p q lane name e begins class free fits))
-
-pub begin_others : {T : Type 0} (p q : Port) (class : Class) (name : ChunkName) (r : Result T FolderRefusal) → BeginsAt r p q name → class_of_kind name.kind ≡ class → LeavesOthers class p q
-begin_others p q class name (Ok x) creates of_class = others_created p q name creates class of_class
-begin_others p q class name (Err Fault) may of_class = others_refused p q name may class of_class
-begin_others p q class name (Err Memory) same of_class = others_same class p q same
 
 -- ---- a chunk that was begun
 

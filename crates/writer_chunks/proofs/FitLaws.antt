@@ -1,5 +1,5 @@
 -- What keeps a lane fitting its port.
-use Rattle.std.proofs.Common.{◌≡◌, ◌≢◌, Bool, true, false, cond, ◌&&◌, ◌||◌, List, [], ◌∷◌, ◌++◌, Option, Some, None, is_some, option_map, All, refl, ap, sym, ◌∙◌, subst, inl, inr}
+use Rattle.std.proofs.Common.{◌≡◌, ◌≢◌, Bool, true, false, cond, ◌&&◌, ◌||◌, List, [], ◌∷◌, ◌++◌, Option, Some, None, is_some, option_map, All, get_or, refl, ap, sym, ◌∙◌, subst, inl, inr}
 use Rattle.std.specs.List.{AllZip}
 use Rattle.std.proofs.lemmas.Bool.{false≢true}
 use Rattle.std.proofs.lemmas.List.Elements.{All-nil, All-cons, All-push, All-weaker}
@@ -100,18 +100,6 @@ module _ (old new : Port) (name : ChunkName) (creates : Creates old new name) wh
         gone = λ n of_class. creates.gone n ∙ fits.gone n (of_class ∙ class);
       }
 
-  pub others_created : (class : Class) → class_of_kind name.kind ≡ class → LeavesOthers class old new
-  others_created class of_class =
-      let differs : (n : ChunkName) → class_of_kind n.kind ≢ class → n ≢ name = λ n apart same. apart (ap (λ (x : ChunkName). class_of_kind x.kind) same ∙ of_class) in
-      record {
-        held = λ n apart. creates.held n;
-        gone = λ n apart. creates.gone n;
-        lent = λ n apart. creates.lent.others n (differs n apart);
-        foreign = λ n apart. creates.foreign n;
-        created = λ n apart. creates.created.others n (differs n apart);
-        fixed = λ n apart. creates.fixed n;
-      }
-
 module _ (old new : Port) (name : ChunkName) (may : MayCreate old new name) where
   -- the file that may lie there has a name that is not lent
   pub fits_refused : (lane : LaneState) → IsFreeName old name → FitsPort old lane → FitsPort new lane
@@ -130,28 +118,6 @@ module _ (old new : Port) (name : ChunkName) (may : MayCreate old new name) wher
     foreign = λ n of_class. may.foreign n ∙ fits.foreign n of_class;
     gone = λ n of_class. may.gone n ∙ fits.gone n of_class;
   }
-
-  pub others_refused : (class : Class) → class_of_kind name.kind ≡ class → LeavesOthers class old new
-  others_refused class of_class =
-      let differs : (n : ChunkName) → class_of_kind n.kind ≢ class → n ≢ name = λ n apart same. apart (ap (λ (x : ChunkName). class_of_kind x.kind) same ∙ of_class) in
-      record {
-        held = λ n apart. may.others n (differs n apart);
-        gone = λ n apart. may.gone n;
-        lent = λ n apart. may.lent n;
-        foreign = λ n apart. may.foreign n;
-        created = λ n apart. may.created n;
-        fixed = λ n apart. may.fixed n;
-      }
-
-pub others_same : (class : Class) (old new : Port) → SamePort old new → LeavesOthers class old new
-others_same class old new same = record {
-  held = λ n apart. same.held n;
-  gone = λ n apart. same.gone n;
-  lent = λ n apart. same.lent n;
-  foreign = λ n apart. same.foreign n;
-  created = λ n apart. same.created n;
-  fixed = λ n apart. same.fixed n;
-}
 
 -- ---- calls that are not those of the lane
 
@@ -220,3 +186,7 @@ fits_others class old new lane differ others fits =
 pub seen_elsewhere : (port : Port) (lane : LaneState) (n : ChunkName) → FitsPort port lane → class_of_kind n.kind ≢ lane.class → seen port lane n ≡ port.held n
 seen_elsewhere port lane n fits apart =
     ap (λ (o : Option FileState). either_file o (port.held n)) (other_absent lane.class (chunks lane) fits.lawful.class n apart)
+
+pub fixed_others : (class : Class) (old new : Port) (lane : LaneState) → lane.class ≢ class → LeavesOthers class old new → FitsPort old lane → All (λ c. old.fixed c.name ≡ true) (chunks lane) → All (λ c. new.fixed c.name ≡ true) (chunks lane)
+fixed_others class old new lane differ others fits all k d inside =
+    others.fixed (get_or (chunks lane) k d).name (λ same. differ (sym (fits.lawful.class k d inside) ∙ same)) ∙ all k d inside

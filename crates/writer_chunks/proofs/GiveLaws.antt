@@ -121,10 +121,6 @@ split_more all left rest given o c split popped is =
     split ∙ ap (λ (xs : List Chunk). xs ++ given) (popped ∙ ap (λ (x : Option Chunk). rest ++ option_to_list x) is)
     ∙ append_assoc rest (c ∷ []) given
 
-pub split_end : (all left rest given : List Chunk) (o : Option Chunk) → all ≡ left ++ given → left ≡ rest ++ option_to_list o → o ≡ None → rest ≡ [] → all ≡ given
-split_end all left rest given o split popped is done =
-    split ∙ ap (λ (xs : List Chunk). xs ++ given) (popped ∙ ap (λ (x : Option Chunk). rest ++ option_to_list x) is ∙ ap (λ (xs : List Chunk). xs ++ []) done)
-
 pub split_none : (all rest given : List Chunk) (c : Chunk) → all ≡ rest ++ c ∷ given → AllPairs (λ a b. a.name ≢ b.name) all → file_among given c.name ≡ None
 split_none all rest given c split once =
     once_after rest c given (subst (λ (xs : List Chunk). AllPairs (λ a b. a.name ≢ b.name) xs) split once)

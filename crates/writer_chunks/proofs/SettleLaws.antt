@@ -58,11 +58,6 @@ module _ (all rest given : List Chunk) (c : Chunk) (split : all ≡ rest ++ c �
   seal_more p q r once gives one =
       gives_more p q r (marked (synced c)) (sealed_chunks given) gives one (sealed_absent given c.name (split_none all rest given c split once))
 
-  pub seal_left : (r : Result (Unit {0}) FolderRefusal) (e : FolderRefusal) → r ≡ Err e → LeavesFull r all rest
-  seal_left r e refused =
-      subst (λ (x : Result (Unit {0}) FolderRefusal). LeavesFull x all rest) (sym refused)
-      (length rest, sym (ap (take (length rest)) split ∙ take_at rest (c ∷ given) (length rest) refl))
-
 -- ---- files that are settled
 
 -- a crash keeps of the file what it kept before, or more, and now all of it

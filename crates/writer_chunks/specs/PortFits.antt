@@ -7,15 +7,17 @@ use Rattle.dir_files.specs.Files.{IsFile}
 use Rattle.dir_files.specs.Ports.{Port, can_be_fixed}
 use Rattle.writer_chunks.specs.Lanes.{LaneState, chunks, file_among, IsLane}
 
--- The names of the class that are lent at the port are those of the chunks in hand, each of one chunk. No other file
--- has them, and a directory sync fixes them or has. Nothing of the class came from elsewhere or was removed.
+-- A lane fits its port: the names of its class that are lent there are those of the chunks in hand.
 pub record FitsPort (port : Port) (lane : LaneState) : Type 0 where
   pub lawful : IsLane lane
+  -- each chunk has a name of its own, and a crash keeps of its file what is there
   pub once : AllPairs (λ a b. a.name ≢ b.name) (chunks lane)
   pub files : All (λ chunk. IsFile chunk.file) (chunks lane)
   pub lent : (name : ChunkName) → class_of_kind name.kind ≡ lane.class → port.lent name ≡ is_some (file_among (chunks lane) name)
+  -- no other file has the name of one in hand, and a directory sync fixes each such name, or has
   pub held : (name : ChunkName) → class_of_kind name.kind ≡ lane.class → port.lent name ≡ true → port.held name ≡ None
   pub fixable : (name : ChunkName) → class_of_kind name.kind ≡ lane.class → port.lent name ≡ true → can_be_fixed port name ≡ true
+  -- nothing of the class came from elsewhere, or may come back
   pub foreign : (name : ChunkName) → class_of_kind name.kind ≡ lane.class → port.foreign name ≡ false
   pub gone : (name : ChunkName) → class_of_kind name.kind ≡ lane.class → port.gone name ≡ None
 

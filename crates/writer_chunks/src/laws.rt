@@ -13,12 +13,16 @@ pub fn an_empty_lane_fits()
     ensures { (class : Class) (port : Port) → IsClearOf class port → FitsPort port (empty_lane class) }
 {}
 
-/// Calls that leave the port, or what it knows of the class, keep the fit.
+/// Calls that leave the port, or what it knows of the class, keep the fit, and which names in hand are fixed.
 pub fn other_calls_keep_the_fit()
     ensures same { (old new : Port) (lane : LaneState)
         → SamePort old new → FitsPort old lane → FitsPort new lane }
     ensures others { (class : Class) (old new : Port) (lane : LaneState)
         → lane.class ≢ class → LeavesOthers class old new → FitsPort old lane → FitsPort new lane }
+    ensures fixed { (class : Class) (old new : Port) (lane : LaneState)
+        → lane.class ≢ class → LeavesOthers class old new → FitsPort old lane
+        → All (λ chunk. old.fixed chunk.name ≡ true) (chunks lane)
+        → All (λ chunk. new.fixed chunk.name ≡ true) (chunks lane) }
 {}
 
 /// A directory sync keeps the fit, and each name in hand is fixed then.
