@@ -239,7 +239,7 @@ pub stand_appended : (w t : Written) (b : Start) (a : Account) (x : Placed) → 
 stand_appended w t b a x h whole appends none maps written =
     let own = own_by w b a h x.chunk appends.placed.partition appends.chunk in
     let stands = stand_more w t b a h whole x appends.numbered appends.noted none (ap (maps_after (command_of x.content)) h.maps ∙ sym maps)
-        (holds_more w.partition b.found w.files t.files w.gone h.durable w.records x.chunk x.content (holds_all w b a h whole) own appends.placed appends.within appends.files) in
+    (holds_more w.partition b.found w.files t.files w.gone h.durable w.records x.chunk x.content (holds_all w b a h whole) own appends.placed appends.within appends.files) in
     subst (λ (cs : List Command). StandsFor t b (record { maps = maps_after (command_of x.content) a.maps; durable = a.durable; tail = cs }))
     (written_tail (is_written (command_of x.content) a.maps) a.tail (command_of x.content) (ap (is_written (command_of x.content)) h.maps ∙ written))
     stands
