@@ -1,5 +1,5 @@
 -- What the begin of a chunk makes of a lane and of the files seen.
-use Rattle.std.proofs.Common.{◌≡◌, ◌≢◌, Bool, true, false, List, [], ◌∷◌, ◌++◌, Option, Some, None, Result, Ok, Err, IfSome, All, AllPairs, refl, ap, sym, ◌∙◌, subst, inl, inr, arith, append-nil}
+use Rattle.std.proofs.Common.{◌≡◌, Bool, true, false, List, [], ◌∷◌, ◌++◌, Option, Some, None, Result, Err, IfSome, All, refl, ap, sym, ◌∙◌, subst, inl, inr, arith, append-nil}
 use Rattle.std.specs.Option.{option_to_list}
 use Rattle.std.proofs.lemmas.List.Elements.{All-nil, All-cons, All-push, All-append}
 use Rattle.hr_base.specs.declared.name.Class.{Class}
@@ -8,12 +8,12 @@ use Rattle.hr_base.specs.Names.{class_of_kind}
 use Rattle.hr_base.proofs.NameTestLaws.{same_name_or_not}
 use Rattle.dir_files.specs.declared.folder.FolderRefusal.{FolderRefusal}
 use Rattle.dir_files.specs.declared.folder.FolderRefusal.TheVariants.{Memory, Fault}
-use Rattle.dir_files.specs.Files.{FileState, IsFile, ChangesAt, SameAt, new_file}
-use Rattle.dir_files.specs.Ports.{Port, SamePort, IsFreeName, Creates, MayCreate, either_file}
+use Rattle.dir_files.specs.Files.{FileState, IsFile, ChangesAt, new_file}
+use Rattle.dir_files.specs.Ports.{Port, IsFreeName, Creates, MayCreate, either_file}
 use Rattle.value_chunk.specs.Chunks.{Chunk}
 use Rattle.value_chunk.specs.Calls.{IsTold, BeginsAt, begun}
 use Rattle.writer_chunks.specs.Lanes.{LaneState, chunks, file_among, seen, IsLane}
-use Rattle.writer_chunks.specs.PortFits.{FitsPort, LeavesOthers}
+use Rattle.writer_chunks.specs.PortFits.{FitsPort}
 use Rattle.writer_chunks.specs.LaneCalls.{BeginsFile}
 use Rattle.writer_chunks.proofs.FileLaws.{seen_same, seen_changes, push_changes}
 use Rattle.writer_chunks.proofs.FitLaws.{fits_same, fits_begun, fits_refused, free_absent}

@@ -8,7 +8,7 @@ use Rattle.hr_base.specs.declared.name.ChunkName.{ChunkName}
 use Rattle.hr_base.specs.Names.{class_of_kind}
 use Rattle.hr_base.proofs.NameTestLaws.{is_name-same, same_name_or_not}
 use Rattle.hr_base.specs.NameTests.{is_name}
-use Rattle.dir_files.specs.Files.{FileState, IsFile, ChangesAt, named_file}
+use Rattle.dir_files.specs.Files.{FileState, IsFile, named_file}
 use Rattle.dir_files.specs.Ports.{Port, SamePort, IsFreeName, Creates, MayCreate, SyncsNames, can_be_fixed, either_file}
 use Rattle.value_chunk.specs.Chunks.{Chunk}
 use Rattle.writer_chunks.specs.Lanes.{LaneState, chunks, file_among, seen, IsLane}

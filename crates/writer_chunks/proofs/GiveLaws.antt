@@ -2,7 +2,6 @@
 use Rattle.std.proofs.Common.{◌≡◌, ◌≢◌, ◌⊎◌, All, Bool, true, false, cond, ◌&&◌, ◌||◌, not, List, [], ◌∷◌, ◌++◌, AllPairs, append_assoc, subst, Option, Some, None, is_some, refl, ap, sym, ◌∙◌, inl, inr}
 use Rattle.std.specs.Option.{option_to_list}
 use Rattle.std.proofs.lemmas.Bool.{cases_Bool, false≢true}
-use Rattle.std.proofs.lemmas.List.Elements.{All-weaker}
 use Rattle.hr_base.specs.declared.name.Class.{Class}
 use Rattle.hr_base.specs.Names.{class_of_kind}
 use Rattle.hr_base.specs.declared.name.ChunkName.{ChunkName}
@@ -15,7 +14,7 @@ use Rattle.writer_chunks.specs.Lanes.{LaneState, chunks, file_among, IsLane}
 use Rattle.writer_chunks.specs.PortFits.{FitsPort, LeavesOthers}
 use Rattle.writer_chunks.specs.LaneCalls.{GivesEach, GivesLane}
 use Rattle.writer_chunks.proofs.FitLaws.{other_absent}
-use Rattle.writer_chunks.proofs.FileLaws.{file_among-here, file_among-past, file_among-append, all_absent, once_after, once_before, once_front}
+use Rattle.writer_chunks.proofs.FileLaws.{file_among-here, file_among-past, file_among-append, once_after, once_before, once_front}
 
 pub and_true : (b : Bool) → b ≡ (b && true)
 and_true true = refl

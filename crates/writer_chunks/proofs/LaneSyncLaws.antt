@@ -1,23 +1,22 @@
 -- What a sync makes of a lane and of the files seen.
-use Rattle.std.proofs.Common.{◌≡◌, ℕ, ◌+◌, ◌<◌, ◌≤◌, Bool, true, false, List, [], ◌∷◌, ◌++◌, length, get_or, Option, Some, None, Result, Ok, Err, IsOk, OnOk, All, refl, ap, sym, ◌∙◌, subst, inl, inr, arith, length-append}
+use Rattle.std.proofs.Common.{◌≡◌, ◌+◌, Bool, true, false, List, [], ◌∷◌, ◌++◌, length, Option, Result, Ok, Err, OnOk, All, refl, ap, sym, ◌∙◌, subst, inl, inr, arith, length-append}
 use Rattle.std.specs.List.{AllZip}
 use Rattle.std.specs.Option.{option_to_list}
 use Rattle.std.proofs.lemmas.List.{get_or_append_left, get_or-append-add}
-use Rattle.std.proofs.lemmas.List.Elements.{All-nil, All-cons, All-head, All-tail}
+use Rattle.std.proofs.lemmas.List.Elements.{All-head, All-tail}
 use Rattle.hr_base.specs.declared.name.Class.{Class}
-use Rattle.hr_base.specs.declared.name.ChunkName.{ChunkName}
 use Rattle.dir_files.specs.declared.folder.FolderRefusal.{FolderRefusal}
 use Rattle.dir_files.specs.Files.{FileState, IsFile, synced_file}
 use Rattle.dir_files.specs.Ports.{Port, SamePort}
 use Rattle.value_chunk.specs.Chunks.{Chunk}
-use Rattle.value_chunk.specs.Calls.{IsTold, IsKept, SyncsFile, synced}
+use Rattle.value_chunk.specs.Calls.{IsTold, IsKept, synced}
 use Rattle.writer_chunks.specs.Lanes.{LaneState, chunks, file_among, seen, IsLane}
 use Rattle.writer_chunks.specs.PortFits.{FitsPort}
 use Rattle.writer_chunks.specs.LaneCalls.{EachChunk, EachRises, IsSynced, KeepsMore, SyncsEach, SyncsLane}
 use Rattle.writer_chunks.proofs.FileLaws.{Follows, RisesTo, keeps_same, rises_among, seen_rises, zip_all, zip_append, zip_same, zip_weaker}
 use Rattle.writer_chunks.proofs.FitLaws.{fits_follows}
 use Rattle.writer_chunks.proofs.LaneLaws.{SameName, lane_follows}
-use Rattle.writer_chunks.proofs.SyncLaws.{kept_itself, kept_synced, kept_told}
+use Rattle.writer_chunks.proofs.SyncLaws.{kept_itself, kept_synced}
 
 -- ---- lists
 

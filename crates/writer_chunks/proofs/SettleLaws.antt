@@ -1,9 +1,9 @@
 -- What it makes of a lane, its port and the files seen, that names are known to be durable.
-use Rattle.std.proofs.Common.{◌≡◌, ◌≢◌, ℕ, ◌+◌, ◌<◌, ◌≤◌, Bool, true, false, cond, ◌&&◌, ◌||◌, not, List, [], ◌∷◌, ◌++◌, length, take, map, get_or, Option, Some, None, is_some, IsSomeAnd, Result, Ok, Err, IsOk, All, AllPairs, refl, ap, sym, ◌∙◌, subst, inl, inr, arith, length-append}
+use Rattle.std.proofs.Common.{◌≡◌, ◌≢◌, ◌+◌, Bool, true, false, cond, ◌&&◌, ◌||◌, not, List, [], ◌∷◌, ◌++◌, length, Option, Some, None, is_some, IsSomeAnd, Result, Ok, Err, IsOk, All, AllPairs, refl, ap, sym, ◌∙◌, subst, arith, length-append}
 use Rattle.std.specs.List.{AllZip}
 use Rattle.std.specs.Option.{option_to_list}
-use Rattle.std.proofs.lemmas.Bool.{cases_Bool, false≢true, and_parts}
-use Rattle.std.proofs.lemmas.List.{take_at, get_or-append-add}
+use Rattle.std.proofs.lemmas.Bool.{false≢true, and_parts}
+use Rattle.std.proofs.lemmas.List.{get_or-append-add}
 use Rattle.std.proofs.lemmas.List.Elements.{All-nil, All-tail, All-take, All-append}
 use Rattle.hr_base.specs.declared.name.Class.{Class}
 use Rattle.hr_base.specs.declared.name.ChunkName.{ChunkName}
@@ -13,12 +13,12 @@ use Rattle.dir_files.specs.declared.folder.FolderRefusal.{FolderRefusal}
 use Rattle.dir_files.specs.Files.{FileState, IsFile, named_file}
 use Rattle.dir_files.specs.Ports.{Port, Gives, either_file, can_be_fixed}
 use Rattle.value_chunk.specs.Chunks.{Chunk, IsDurable}
-use Rattle.value_chunk.specs.Calls.{IsTold, Marks, synced, marked}
-use Rattle.writer_chunks.specs.Lanes.{LaneState, chunks, file_among, seen, IsLane}
-use Rattle.writer_chunks.specs.PortFits.{FitsPort, LeavesOthers}
-use Rattle.writer_chunks.specs.LaneCalls.{GivesEach, IsSynced, KeepsMore, LeavesFull, Rises, SettlesLane, SettlesPort, sealed_chunks}
-use Rattle.writer_chunks.proofs.FileLaws.{IsOnce, Follows, file_among-append, found_alike, once_after, zip_all, zip_append, zip_weaker, rises_same, rises_beside}
-use Rattle.writer_chunks.proofs.LaneLaws.{SameName, lane_follows}
+use Rattle.value_chunk.specs.Calls.{IsTold, synced, marked}
+use Rattle.writer_chunks.specs.Lanes.{LaneState, chunks, file_among, IsLane}
+use Rattle.writer_chunks.specs.PortFits.{FitsPort}
+use Rattle.writer_chunks.specs.LaneCalls.{GivesEach, IsSynced, KeepsMore, LeavesFull, Rises, SettlesPort, sealed_chunks}
+use Rattle.writer_chunks.proofs.FileLaws.{IsOnce, file_among-append, zip_all, rises_same, rises_beside}
+use Rattle.writer_chunks.proofs.LaneLaws.{SameName}
 use Rattle.writer_chunks.proofs.LaneSyncLaws.{all_front, all_back, zip_with_all}
 use Rattle.writer_chunks.proofs.GiveLaws.{and_true, gives_more, gives_others, none_gone, once_apart, split_none}
 

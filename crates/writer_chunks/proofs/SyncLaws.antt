@@ -1,20 +1,17 @@
 -- What a sync makes of the chunks, one after another.
-use Rattle.std.proofs.Common.{◌≡◌, ℕ, ◌+◌, ◌<◌, ◌≤◌, Bool, true, false, List, [], ◌∷◌, ◌++◌, length, take, drop, set, get_or, Result, Ok, Err, All, refl, ap, sym, ◌∙◌, subst, inl, inr, arith, add-one}
+use Rattle.std.proofs.Common.{◌≡◌, ℕ, ◌+◌, ◌<◌, ◌≤◌, Bool, true, false, List, ◌++◌, length, take, drop, set, get_or, refl, ap, sym, ◌∙◌, subst, inl, inr, arith}
 use Rattle.std.specs.List.{AllZip}
-use Rattle.std.specs.Option.{option_to_list}
 use Rattle.std.proofs.lemmas.List.{take_more_set, drop-set-lt, drop-drop, get_or-drop, get_or_default, take-append-drop, set-get_or, take_all}
 use Rattle.std.proofs.lemmas.List.Elements.{all_zip_more}
 use Rattle.dir_files.specs.declared.folder.Folder.{Ghosts}
-use Rattle.dir_files.specs.declared.folder.FolderRefusal.{FolderRefusal}
-use Rattle.dir_files.specs.Faults.{is_fault, is_disk, CountsFault, StaysSound}
-use Rattle.dir_files.specs.Files.{FileState, IsFile, Rose}
+use Rattle.dir_files.specs.Faults.{CountsFault}
+use Rattle.dir_files.specs.Files.{FileState, Rose}
 use Rattle.std.proofs.lemmas.Bool.{false≢true}
 use Rattle.hr_base.specs.declared.name.ChunkName.{ChunkName}
 use Rattle.dir_files.specs.PortCalls.{Counts, GivesFile, LeavesPort}
 use Rattle.dir_files.specs.Ports.{Port, SamePort}
 use Rattle.value_chunk.specs.Chunks.{Chunk}
-use Rattle.value_chunk.specs.Calls.{IsTold, IsKept, SyncsFile, synced}
-use Rattle.writer_chunks.specs.LaneCalls.{SyncsEach}
+use Rattle.value_chunk.specs.Calls.{IsTold, IsKept, synced}
 use Rattle.writer_chunks.proofs.FileLaws.{zip_weaker, zip_append, zip_same}
 
 -- ---- ports, from call to call

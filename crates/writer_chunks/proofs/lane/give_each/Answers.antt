@@ -1,4 +1,4 @@
-use Rattle.std.proofs.Common.{◌≡◌, false, [], ◌∷◌, sym, append-nil}
+use Rattle.std.proofs.Common.{false, [], ◌∷◌, sym, append-nil}
 use Rattle.writer_chunks.proofs.GiveLaws.{gives_none, gives_more, split_more, split_none}
 use Rattle.writer_chunks.proofs.SyncLaws.{counts_then, counts_none, counts_given}
 use Rattle.writer_chunks.proofs.lane.give_each.Goals as goal

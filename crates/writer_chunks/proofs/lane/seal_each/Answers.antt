@@ -1,9 +1,4 @@
-use Rattle.std.proofs.Common.{◌≡◌, false, Err, [], ◌∷◌, sym, ap, ◌∙◌, subst, append-nil, Bool}
-use Rattle.std.proofs.lemmas.Bool.{false≢true}
-use Rattle.std.proofs.lemmas.Result.{err_from_is_err_and}
-use Rattle.dir_files.specs.declared.folder.FolderRefusal.{FolderRefusal}
-use Rattle.dir_files.specs.Faults.{is_fault}
-use Rattle.dir_files.specs.PortCalls.{Counts}
+use Rattle.std.proofs.Common.{false, [], ◌∷◌, sym, append-nil}
 use Rattle.writer_chunks.proofs.GiveLaws.{gives_none, split_more}
 use Rattle.writer_chunks.proofs.SettleLaws.{seal_unsynced, seal_fixed, seal_more}
 use Rattle.writer_chunks.proofs.SyncLaws.{counts_then, counts_none}

@@ -1,11 +1,9 @@
-use Rattle.std.proofs.Common.{◌≡◌, false, Err, All, get_or, sym, ap, ◌∙◌, subst, arith, refl, Bool}
+use Rattle.std.proofs.Common.{◌≡◌, false, Err, get_or, sym, ap, ◌∙◌, subst, arith, Bool}
 use Rattle.std.proofs.lemmas.Result.{err_from_is_err_and}
-use Rattle.std.proofs.lemmas.List.Elements.{All-get_or}
 use Rattle.dir_files.specs.declared.folder.FolderRefusal.{FolderRefusal}
 use Rattle.dir_files.specs.Faults.{is_fault}
 use Rattle.dir_files.specs.PortCalls.{LeavesPort}
 use Rattle.value_chunk.specs.Chunks.{Chunk}
-use Rattle.writer_chunks.specs.LaneCalls.{SyncsEach}
 use Rattle.writer_chunks.proofs.SyncLaws.{reads, leaves_then, read_old, rest_more, front_more, stopped, same_more, all_synced}
 use Rattle.writer_chunks.proofs.lane.sync_each.Goals as goal
 

@@ -1,10 +1,9 @@
-use Rattle.std.proofs.Common.{◌≡◌, false, All, sym, ap, ◌∙◌, subst, arith}
+use Rattle.std.proofs.Common.{◌≡◌, false, All, sym, ◌∙◌, subst, arith}
 use Rattle.std.proofs.lemmas.Bool.{false≢true}
 use Rattle.std.proofs.lemmas.Result.{err_from_is_err_and}
 use Rattle.std.proofs.lemmas.List.{with_items_is}
 use Rattle.std.specs.Option.{option_to_list}
 use Rattle.dir_files.specs.Faults.{is_fault}
-use Rattle.value_chunk.specs.Chunks.{Chunk}
 use Rattle.writer_chunks.specs.Lanes.{LaneState, chunks, IsLane}
 use Rattle.writer_chunks.proofs.BeginLaws.{same_lane}
 use Rattle.writer_chunks.proofs.LaneSyncLaws.{all_front, all_back, kept_lane, kept_files, kept_fits, syncs_kept, syncs_durable, lane_synced, lane_stopped, lane_same}
