@@ -132,7 +132,8 @@ impl<F: Folder> Lane<F> {
     }
 
     /// Takes note that the names are durable, after a directory sync: the full chunks are sealed, and their files given
-    /// back. A folder that tells its content refuses nothing here.
+    /// back. A folder that tells its content refuses nothing here. Where another one does, the file of the chunk that
+    /// was not sealed is given back as it is, and the full chunks before it are left.
     pub fn settle(&mut self, port: &mut F) -> Result<(), FolderRefusal>
         requires synced { All (λ chunk. IsSynced F.tells chunk) (chunks self.old) }
         requires fixed { F.tells ≡ true → All (λ chunk. (F.port port.old).fixed chunk.name ≡ true) (chunks self.old) }
@@ -215,7 +216,8 @@ fn mark_taking<F: Folder>(taking: &mut Option<AnyFilling<F>>, port: &F)
     }
 }
 
-/// Seals each chunk, and gives its file back. Where the folder refuses one, those before it are left.
+/// Seals each chunk, the last one first, and gives its file back. Where the folder refuses one, those before it are
+/// left.
 fn seal_each<F: Folder>(full: &mut Vec<AnyFull<F>>, port: &mut F) -> Result<(), FolderRefusal>
     requires synced { All (λ chunk. IsSynced F.tells chunk) full.old.items }
     requires fixed { F.tells ≡ true → All (λ chunk. (F.port port.old).fixed chunk.name ≡ true) full.old.items }

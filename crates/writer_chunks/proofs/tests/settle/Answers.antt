@@ -1,4 +1,4 @@
-use Rattle.writer_chunks.proofs.FitLaws.{all_fixed, fits_same}
+use Rattle.writer_chunks.proofs.FitLaws.{all_fixed}
 use Rattle.writer_chunks.proofs.tests.settle.Goals as goal
 
 pub settle-requires-clause-fixed : goal.settle-requires-clause-fixed

@@ -1,6 +1,6 @@
 use Rattle.std.proofs.Common.{length, refl, ap, arith, rules}
 use Rattle.record_format.specs.declared.record.Record.TheVariants.{Value}
-use Rattle.writer_chunks.proofs.tests.spelled.Goals as goal
+use Rattle.writer_chunks.proofs.tests.value.Goals as goal
 
 pub returns : goal.returns
 returns c = record {
