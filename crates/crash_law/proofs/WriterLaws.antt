@@ -18,6 +18,7 @@ use Rattle.crash_law.specs.Crashes.{Recovers, PartSurvives}
 use Rattle.crash_law.specs.Restarts.{RestartsAs}
 use Rattle.crash_law.specs.Growth.{HoldsButAt, HoldsBut, PartRises}
 use Rattle.crash_law.specs.Writers.{Start, Written, StandsFor, BeginsWith, CreatesFile, NotesRecord, AppendsRecord, LosesRecord, KeepsRecords, SyncsRecords}
+use Rattle.crash_law.proofs.CommandLaws.{maps_after-unwritten}
 use Rattle.crash_law.proofs.NumberedLaws.{Rising-more}
 use Rattle.crash_law.proofs.FileLaws.{files_recover, files_read}
 use Rattle.crash_law.proofs.GrowthLaws.{holds_more, holds_torn, holds_lost, holds_new, holds_risen, holds_synced, holds_begun, holds_but, holds_whole}
@@ -319,10 +320,10 @@ unwritten_tail true cs c e = cc
 unwritten_tail false cs c e = refl
 
 -- a command that changes nothing
-pub stand_unwritten : (w : Written) (b : Start) (a : Account) (c : Command) → StandsFor w b a → is_written c w.maps ≡ false → w.maps ≡ maps_after c w.maps → StandsFor w b (answered a c)
-stand_unwritten w b a c h unwritten same =
+pub stand_unwritten : (w : Written) (b : Start) (a : Account) (c : Command) → StandsFor w b a → is_written c w.maps ≡ false → StandsFor w b (answered a c)
+stand_unwritten w b a c h unwritten =
     subst (λ (m : Entries). StandsFor w b (record { maps = m; durable = a.durable; tail = if is_written c a.maps then a.tail ++ c ∷ [] else a.tail }))
-    (h.maps ∙ same ∙ ap (maps_after c) (sym h.maps))
+    (h.maps ∙ sym (maps_after-unwritten c w.maps unwritten) ∙ ap (maps_after c) (sym h.maps))
     (subst (λ (cs : List Command). StandsFor w b (record { maps = a.maps; durable = a.durable; tail = cs }))
     (unwritten_tail (is_written c a.maps) a.tail c (ap (is_written c) h.maps ∙ unwritten)) h)
 

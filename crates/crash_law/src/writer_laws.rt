@@ -25,8 +25,7 @@ pub fn a_command_stands()
         → t.maps ≡ maps_after (command_of x.content) w.maps → is_written (command_of x.content) w.maps ≡ true
         → StandsFor t b (answered a (command_of x.content)) }
     ensures unwritten { (w : Written) (b : Start) (a : Account) (c : Command)
-        → StandsFor w b a → is_written c w.maps ≡ false → w.maps ≡ maps_after c w.maps
-        → StandsFor w b (answered a c) }
+        → StandsFor w b a → is_written c w.maps ≡ false → StandsFor w b (answered a c) }
     ensures torn { (w t : Written) (b : Start) (a : Account) (x : Placed) (n : ℕ)
         → StandsFor w b a → w.lost ≡ false → AppendsRecord w t x (take n (spelling x.content)) → t.lost ≡ true
         → t.maps ≡ w.maps → StandsFor t b (refused a (command_of x.content)) }
