@@ -23,5 +23,5 @@ pub use growth_laws::{
 };
 pub use writer_laws::{
     a_begun_writer_stands, a_command_stands, a_kept_writer_stands, a_synced_writer_stands,
-    what_a_writer_leaves,
+    each_kept_record_is_whole, each_record_is_durable_after_a_sync, what_a_writer_leaves,
 };
