@@ -4,6 +4,7 @@ pub mod RestartLaws
 pub mod KeptLaws
 pub mod ChunkLaws
 pub mod ImageLaws
+pub mod PartLaws
 pub mod PlacedLaws
 pub mod GrowthLaws
 pub mod WriterLaws

@@ -1,25 +1,31 @@
 -- How what a writer stands for changes with its calls, and what it leaves.
-use Rattle.std.specs.Prelude.{◌≡◌, ◌⊎◌, ℕ, ◌+◌, ◌<◌, ◌≤◌, Bool, true, false, List, [], ◌∷◌, ◌++◌, take, All, Option, Some, None, if◌then◌else◌, refl}
+use Rattle.std.specs.Prelude.{◌≡◌, ◌⊎◌, ℕ, ◌+◌, ◌<◌, ◌≤◌, Bool, true, false, List, [], ◌∷◌, ◌++◌, length, take, All, Contains, Option, Some, None, if◌then◌else◌, refl}
 use Rattle.std.proofs.Common.{sym, ◌∙◌, ap, subst, inl, inr, arith, append_assoc}
 use Rattle.std.specs.Option.{option_map}
 use Rattle.std.proofs.lemmas.List.{map-append, append-nil, nil_from_length}
-use Rattle.std.proofs.lemmas.List.Elements.{All-nil, All-push, All-weaker, All-head, All-tail}
+use Rattle.std.proofs.lemmas.List.Elements.{All-nil, All-push, All-weaker, All-head, All-tail, All-contains, All-from_recursion, recursion_from_All, Contains-append_right}
 use Rattle.hr_base.specs.declared.name.ChunkName.{ChunkName}
+use Rattle.hr_base.specs.declared.name.Class.{Class}
 use Rattle.hr_base.specs.Entries.{Entries}
+use Rattle.hr_base.specs.Names.{class_of_kind}
 use Rattle.dir_files.specs.Files.{FileState, Files, SameAt}
 use Rattle.dir_files.specs.Images.{Image}
 use Rattle.record_format.specs.declared.record.Record.{Record}
-use Rattle.record_format.specs.Spelling.{seq_of, spelling}
+use Rattle.record_format.specs.Spelling.{seq_of, spelling, spellings}
+use Rattle.record_format.specs.Splits.{Splits, IsOfClass}
+use Rattle.record_format.proofs.SplitLaws.{whole_spellings_split}
 use Rattle.crash_law.specs.Accounts.{Account, fresh_account, answered, refused, synced}
 use Rattle.crash_law.specs.Commands.{Command, command_of, is_written, maps_after, maps_after_all}
 use Rattle.crash_law.specs.Numbered.{Rising, commands_of}
-use Rattle.crash_law.specs.Placed.{Placed, records_of, Base, Holds, InOrder}
+use Rattle.crash_law.specs.Placed.{Placed, records_of, in_chunk, IsPlaced, Base, IsAsFound, Holds, IsExactly, HasWholeAt, HoldsWhole, InOrder}
 use Rattle.crash_law.specs.Crashes.{Recovers, PartSurvives}
 use Rattle.crash_law.specs.Restarts.{RestartsAs}
-use Rattle.crash_law.specs.Growth.{HoldsButAt, HoldsBut, PartRises}
-use Rattle.crash_law.specs.Writers.{Start, Written, StandsFor, BeginsWith, CreatesFile, NotesRecord, AppendsRecord, LosesRecord, KeepsRecords, SyncsRecords}
+use Rattle.crash_law.specs.Growth.{IsOwnBut, HoldsButAt, HoldsBut, PartRises}
+use Rattle.crash_law.specs.Writers.{Start, Written, StandsFor, BeginsWith, CreatesFile, NotesRecord, AppendsRecord, LosesRecord, KeepsRecords, SyncsRecords, IsWholeIn, IsKept}
+use Rattle.crash_law.proofs.CommandLaws.{maps_after-unwritten}
 use Rattle.crash_law.proofs.NumberedLaws.{Rising-more}
 use Rattle.crash_law.proofs.FileLaws.{files_recover, files_read}
+use Rattle.crash_law.proofs.PlacedLaws.{in_chunk_valid, Contains-in_chunk}
 use Rattle.crash_law.proofs.GrowthLaws.{holds_more, holds_torn, holds_lost, holds_new, holds_risen, holds_synced, holds_begun, holds_but, holds_whole}
 
 -- ---- lists
@@ -319,10 +325,10 @@ unwritten_tail true cs c e = cc
 unwritten_tail false cs c e = refl
 
 -- a command that changes nothing
-pub stand_unwritten : (w : Written) (b : Start) (a : Account) (c : Command) → StandsFor w b a → is_written c w.maps ≡ false → w.maps ≡ maps_after c w.maps → StandsFor w b (answered a c)
-stand_unwritten w b a c h unwritten same =
+pub stand_unwritten : (w : Written) (b : Start) (a : Account) (c : Command) → StandsFor w b a → is_written c w.maps ≡ false → StandsFor w b (answered a c)
+stand_unwritten w b a c h unwritten =
     subst (λ (m : Entries). StandsFor w b (record { maps = m; durable = a.durable; tail = if is_written c a.maps then a.tail ++ c ∷ [] else a.tail }))
-    (h.maps ∙ same ∙ ap (maps_after c) (sym h.maps))
+    (h.maps ∙ sym (maps_after-unwritten c w.maps unwritten) ∙ ap (maps_after c) (sym h.maps))
     (subst (λ (cs : List Command). StandsFor w b (record { maps = a.maps; durable = a.durable; tail = cs }))
     (unwritten_tail (is_written c a.maps) a.tail c (ap (is_written c) h.maps ∙ unwritten)) h)
 
@@ -396,3 +402,95 @@ stand_exact w b a h whole =
     subst (λ (m : Entries). RestartsAs (λ name. option_map (λ file. file.bytes) (w.files name)) w.partition m) (sym (all_maps w b a h whole))
     (files_read w.partition b.found b.maps b.first w.files (h.durable ++ w.records) h.base
     (holds_whole w.partition b.found w.files w.gone h.durable w.records (holds_all w b a h whole)) (all_order w b a h))
+
+-- ---- where its records are whole
+
+none_in : (r : Record) → Contains [] r → ⊥
+none_in r h = absurd (omega (arith, h.1))
+
+spelled_whole : (class : Class) (bytes : List ℕ) (rs : List Record) → All (IsOfClass class) rs → bytes ≡ spellings rs → Splits class bytes rs []
+spelled_whole class bytes rs valid is = subst (λ (b : List ℕ). Splits class b rs []) (sym is) (whole_spellings_split class rs valid)
+
+whole_by : (files : Files) (x : Placed) (was : Option (List ℕ)) (file : Option FileState) (rs : List Record) → files x.chunk ≡ file → All (IsOfClass (class_of_kind x.chunk.kind)) rs → Contains rs x.content
+    → HasWholeAt was file rs → IsWholeIn files x
+whole_by files x (Some bytes) file rs there valid has whole = absurd (none_in x.content (subst (λ (xs : List Record). Contains xs x.content) whole.none_durable has))
+whole_by files x None None rs there valid has whole = absurd (none_in x.content (subst (λ (xs : List Record). Contains xs x.content) whole has))
+whole_by files x None (Some file) rs there valid has whole = record {
+  file = file;
+  records = rs;
+  rest = [];
+  there = there;
+  split = spelled_whole (class_of_kind x.chunk.kind) file.bytes rs valid whole.1;
+  has = has;
+}
+
+-- of files that have all records whole
+whole_in : (p : ℕ) (found : Image) (files : Files) (records : List Placed) (x : Placed) → HoldsWhole p found files records → Contains records x → IsWholeIn files x
+whole_in p found files records x whole has =
+    whole_by files x (found x.chunk) (files x.chunk) (in_chunk x.chunk records) refl
+    (All-from_recursion (IsOfClass (class_of_kind x.chunk.kind)) (in_chunk x.chunk records) (in_chunk_valid p x.chunk records (recursion_from_All (IsPlaced p) records whole.placed)))
+    (Contains-in_chunk records x has) (whole.at x.chunk (All-contains (IsPlaced p) records x whole.placed has).partition)
+
+-- each record of a writer with none that may lack bytes
+pub stand_whole_in : (w : Written) (b : Start) (a : Account) (x : Placed) → StandsFor w b a → w.lost ≡ false → Contains w.records x → IsWholeIn w.files x
+stand_whole_in w b a x h whole has =
+    whole_in w.partition b.found w.files (h.durable ++ w.records) x
+    (holds_whole w.partition b.found w.files w.gone h.durable w.records (holds_all w b a h whole)) (Contains-append_right h.durable w.records x has)
+
+-- ---- where none of its records waits for a sync
+
+own_is_kept : (file : FileState) (rs : List Record) → IsOwnBut (Some file) rs [] [] → IsKept file
+own_is_kept file rs own = record { front = omega (arith, own.1.1.front, ap length bytes); named = named_by own.1.1.named } where
+  nothing : own.1.0 ≡ []
+  nothing = nil_from_length own.1.0 (omega (arith, own.1.2))
+
+  bytes : spellings rs ≡ file.bytes
+  bytes = ap spellings (sym (append-nil rs)) ∙ own.1.1.bytes ∙ ap (λ (m : List ℕ). file.bytes ++ m) nothing ∙ append-nil file.bytes
+
+  named_by : (rs ≡ []) ⊎ (file.named ≡ true) → (file.bytes ≡ []) ⊎ (file.named ≡ true)
+  named_by (inl none) = inl (sym bytes ∙ ap spellings none)
+  named_by (inr named) = inr named
+
+one_file : (a b : FileState) → Some a ≡ Some b → a ≡ b
+one_file a b e = cc
+
+found_is_kept : (file : FileState) (bytes : List ℕ) (rs : List Record) → IsAsFound (Some file) bytes rs [] → IsKept file
+found_is_kept file bytes rs was = subst IsKept (sym (one_file file _ was.is)) (record { front = omega arith; named = inr refl })
+
+file_is_kept : (was : Option (List ℕ)) (file : FileState) (rs : List Record) → HoldsButAt was (Some file) rs [] [] → IsKept file
+file_is_kept None file rs own = own_is_kept file rs own
+file_is_kept (Some bytes) file rs found = found_is_kept file bytes rs found
+
+nothing_joined : (xs ys : List Placed) → xs ++ ys ≡ [] → (xs ≡ []) × (ys ≡ [])
+nothing_joined [] ys e = (refl, e)
+nothing_joined (x ∷ xs) ys e = absurd (omega (arith, ap length e))
+
+module _ (w : Written) (b : Start) (a : Account) (h : StandsFor w b a) (none : w.records ≡ []) where
+  neither : (h.kept ≡ []) × (h.lost ≡ [])
+  neither = nothing_joined h.kept h.lost (sym h.records ∙ none)
+
+  holds_durable : HoldsBut w.partition b.found w.files w.gone h.durable [] []
+  holds_durable =
+      subst (λ (xs : List Placed). HoldsBut w.partition b.found w.files w.gone h.durable xs []) neither.0
+      (subst (λ (xs : List Placed). HoldsBut w.partition b.found w.files w.gone h.durable h.kept xs) neither.1 h.holds)
+
+  pub stand_durable_maps : a.durable ≡ a.maps
+  stand_durable_maps =
+      h.durable_maps
+      ∙ ap (λ (xs : List Placed). maps_after_all (commands_of (records_of xs)) b.maps) (sym (ap (λ (xs : List Placed). h.durable ++ xs) neither.0 ∙ append-nil h.durable))
+      ∙ sym h.kept_maps
+
+  pub stand_kept : (name : ChunkName) (file : FileState) → name.partition.0 ≡ w.partition → w.files name ≡ Some file → IsKept file
+  stand_kept name file of there =
+      file_is_kept (b.found name) file (in_chunk name h.durable)
+      (subst (λ (o : Option FileState). HoldsButAt (b.found name) o (in_chunk name h.durable) [] []) there (holds_durable.at name of))
+
+  exactly_by : (was : Option (List ℕ)) (file : Option FileState) (rs : List Record) → was ≡ None → HasWholeAt was file rs → IsExactly file rs
+  exactly_by None file rs e whole = whole
+  exactly_by (Some bytes) file rs e whole = cc
+
+  pub stand_durable : (name : ChunkName) → name.partition.0 ≡ w.partition → b.found name ≡ None → IsExactly (w.files name) (in_chunk name h.durable)
+  stand_durable name of own =
+      exactly_by (b.found name) (w.files name) (in_chunk name h.durable) own
+      (subst (λ (xs : List Placed). HasWholeAt (b.found name) (w.files name) (in_chunk name xs)) (append-nil h.durable)
+      ((holds_whole w.partition b.found w.files w.gone h.durable [] holds_durable).at name of))

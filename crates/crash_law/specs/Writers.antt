@@ -1,11 +1,14 @@
 -- A writer's facts: what it stands for, by what its files hold.
-use Rattle.std.specs.Prelude.{◌≡◌, ◌≢◌, ◌⊎◌, ℕ, ◌+◌, ◌<◌, ◌≤◌, Bool, true, false, List, [], ◌∷◌, ◌++◌, length, All, Some, None, IfSome, if◌then◌else◌}
+use Rattle.std.specs.Prelude.{◌≡◌, ◌≢◌, ◌⊎◌, ℕ, ◌+◌, ◌<◌, ◌≤◌, Bool, true, false, List, [], ◌∷◌, ◌++◌, length, All, Contains, Some, None, IfSome, if◌then◌else◌}
 use Rattle.hr_base.specs.Entries.{Entries}
 use Rattle.hr_base.specs.declared.limits.TheConstants.{MAX_FILE_LEN}
 use Rattle.hr_base.specs.declared.name.ChunkName.{ChunkName}
-use Rattle.dir_files.specs.Files.{Files, Names, IsDurable, ChangesAt, SameAt, with_bytes}
+use Rattle.hr_base.specs.Names.{class_of_kind}
+use Rattle.dir_files.specs.Files.{FileState, Files, Names, IsDurable, ChangesAt, SameAt, with_bytes}
 use Rattle.dir_files.specs.Images.{Image}
+use Rattle.record_format.specs.declared.record.Record.{Record}
 use Rattle.record_format.specs.Spelling.{seq_of, spelling}
+use Rattle.record_format.specs.Splits.{Splits}
 use Rattle.crash_law.specs.Accounts.{Account}
 use Rattle.crash_law.specs.Commands.{maps_after_all}
 use Rattle.crash_law.specs.Numbered.{commands_of}
@@ -121,3 +124,17 @@ pub record SyncsRecords (w t : Written) : Type 0 where
   pub next : t.next ≡ w.next
   pub lost : t.lost ≡ false
   pub taking : (name : ChunkName) → t.taking name ≡ true → w.taking name ≡ true
+
+-- the file of its chunk has the record, whole
+pub record IsWholeIn (files : Files) (x : Placed) : Type 0 where
+  pub file : FileState
+  pub records : List Record
+  pub rest : List ℕ
+  pub there : files x.chunk ≡ Some file
+  pub split : Splits (class_of_kind x.chunk.kind) file.bytes records rest
+  pub has : Contains records x.content
+
+-- a crash keeps all bytes of the file, and its name where it has some
+pub record IsKept (file : FileState) : Type 0 where
+  pub front : length file.bytes ≤ file.front
+  pub named : (file.bytes ≡ []) ⊎ (file.named ≡ true)

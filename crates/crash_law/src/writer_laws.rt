@@ -1,16 +1,17 @@
 //! Laws of a writer's facts: what it stands for after each answer, and what it leaves.
 
-ghost use Rattle.std.specs.Prelude.{◌≡◌, ℕ, true, false, take};
+ghost use Rattle.std.specs.Prelude.{◌≡◌, ℕ, [], true, false, Some, None, Contains, take};
 ghost use Rattle.std.specs.Option.{option_map};
 ghost use Rattle.hr_base.specs.declared.name.ChunkName.{ChunkName};
+ghost use Rattle.dir_files.specs.Files.{FileState};
 ghost use Rattle.record_format.specs.Spelling.{spelling};
 ghost use Rattle.crash_law.specs.Accounts.{Account, answered, fresh_account, refused, synced};
 ghost use Rattle.crash_law.specs.Commands.{Command, command_of, is_written, maps_after};
 ghost use Rattle.crash_law.specs.Crashes.{PartSurvives};
 ghost use Rattle.crash_law.specs.Growth.{PartRises};
-ghost use Rattle.crash_law.specs.Placed.{Placed};
+ghost use Rattle.crash_law.specs.Placed.{IsExactly, Placed, in_chunk};
 ghost use Rattle.crash_law.specs.Restarts.{RestartsAs};
-ghost use Rattle.crash_law.specs.Writers.{AppendsRecord, BeginsWith, CreatesFile, KeepsRecords, LosesRecord, StandsFor, Start, SyncsRecords, Written};
+ghost use Rattle.crash_law.specs.Writers.{AppendsRecord, BeginsWith, CreatesFile, IsKept, IsWholeIn, KeepsRecords, LosesRecord, StandsFor, Start, SyncsRecords, Written};
 
 /// A writer that begins stands for the maps that it begins with.
 pub fn a_begun_writer_stands()
@@ -25,8 +26,7 @@ pub fn a_command_stands()
         → t.maps ≡ maps_after (command_of x.content) w.maps → is_written (command_of x.content) w.maps ≡ true
         → StandsFor t b (answered a (command_of x.content)) }
     ensures unwritten { (w : Written) (b : Start) (a : Account) (c : Command)
-        → StandsFor w b a → is_written c w.maps ≡ false → w.maps ≡ maps_after c w.maps
-        → StandsFor w b (answered a c) }
+        → StandsFor w b a → is_written c w.maps ≡ false → StandsFor w b (answered a c) }
     ensures torn { (w t : Written) (b : Start) (a : Account) (x : Placed) (n : ℕ)
         → StandsFor w b a → w.lost ≡ false → AppendsRecord w t x (take n (spelling x.content)) → t.lost ≡ true
         → t.maps ≡ w.maps → StandsFor t b (refused a (command_of x.content)) }
@@ -57,4 +57,21 @@ pub fn what_a_writer_leaves()
         → StandsFor w b a → PartSurvives w.partition w.files w.gone a }
     ensures exact { (w : Written) (b : Start) (a : Account) → StandsFor w b a → w.lost ≡ false
         → RestartsAs (λ name. option_map (λ file. file.bytes) (w.files name)) w.partition a.maps }
+{}
+
+/// Where no record may lack bytes, each record since the last answered sync is whole in the file of its chunk.
+pub fn each_kept_record_is_whole()
+    ensures { (w : Written) (b : Start) (a : Account) (x : Placed)
+        → StandsFor w b a → w.lost ≡ false → Contains w.records x → IsWholeIn w.files x }
+{}
+
+/// Where no record waits for a sync, the durable maps are the maps. A crash then keeps each file of the partition whole,
+/// and a file that was not found has just the durable records of its chunk.
+pub fn each_record_is_durable_after_a_sync()
+    ensures maps { (w : Written) (b : Start) (a : Account) → StandsFor w b a → w.records ≡ [] → a.durable ≡ a.maps }
+    ensures files { (w : Written) (b : Start) (a : Account) (name : ChunkName) (file : FileState)
+        → StandsFor w b a → w.records ≡ [] → name.partition.0 ≡ w.partition → w.files name ≡ Some file → IsKept file }
+    ensures records { (w : Written) (b : Start) (a : Account) (stands : StandsFor w b a) (name : ChunkName)
+        → w.records ≡ [] → name.partition.0 ≡ w.partition → b.found name ≡ None
+        → IsExactly (w.files name) (in_chunk name stands.durable) }
 {}
