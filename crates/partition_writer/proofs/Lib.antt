@@ -1,6 +1,4 @@
-mod CloseLaws
-mod LimitLaws
-mod NumberLaws
-mod OneChunkLaws
-pub mod StandingLaws
-mod StoredLaws
+pub mod FileLaws
+pub mod StoreLaws
+pub mod StandLaws
+pub mod LimitLaws

@@ -1,7 +1,6 @@
-pub mod Stored
-pub mod Disk
-pub mod ChunkViews
 pub mod Refusals
-pub mod OneChunk
+pub mod Disk
 pub mod Standing
+pub mod Storing
+pub mod Answers
 pub mod WriterViews

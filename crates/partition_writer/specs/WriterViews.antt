@@ -1,24 +1,26 @@
 -- A writer as contracts see it.
 use Rattle.dir_files.specs.declared.folder.Folder.{Ghosts as FolderGhosts}
 use Rattle.hr_base.specs.declared.name.Named.{Ghosts as NamedGhosts}
-use Rattle.partition_writer.specs.declared.chunk_file.ChunkFile.{ChunkFile}
+use Rattle.writer_files.specs.StockViews.{port_of as files_port, stock}
 use Rattle.partition_writer.specs.declared.writer.Writer.{Writer}
-use Rattle.partition_writer.specs.ChunkViews.{chunk_state}
 use Rattle.partition_writer.specs.Standing.{Standing}
 
 module _ {F File : Type 0} {g : FolderGhosts F File} {h : NamedGhosts File} where
-  -- its chunk with its port, as they are
-  abbrev pub chunk_of : Writer F File g h → ChunkFile F File g h
-  chunk_of writer = writer.chunk
+  -- its port as it is
+  abbrev pub port_of : Writer F File g h → F
+  port_of writer = files_port writer.files
 
   abbrev pub standing : Writer F File g h → Standing
   standing writer = record {
-    chunk = chunk_state writer.chunk;
-    faults = g.count writer.chunk.port;
-    sound = g.sound writer.chunk.port;
-    halted = writer.chunk.halted;
+    partition = writer.partition;
+    limits = writer.limits;
+    stock = stock writer.files;
+    faults = g.count (files_port writer.files);
+    sound = g.sound (files_port writer.files);
+    halted = writer.halted;
     lost = writer.lost;
     maps = writer.map.entries;
     records = writer.records.items;
     next = writer.next;
+    next_chunk = writer.next_chunk;
   }

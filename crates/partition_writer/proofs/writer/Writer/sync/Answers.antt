@@ -1,8 +1,7 @@
 use Rattle.std.proofs.Common.{rules}
-use Rattle.partition_writer.proofs.StandingLaws.{stand_synced, stores_whole}
+use Rattle.partition_writer.proofs.StandLaws.{stand_all_synced, stand_unsynced}
 use Rattle.partition_writer.proofs.writer.Writer.sync.Goals as goal
 
-pub returns-clause-account : goal.returns-clause-account
-returns-clause-account g c = λ tells a size h.
-    let durable = c.in_ok-sync.ensures.durable tells in
-    (stand_synced _ _ a size h (search rules) (search rules) durable, (durable _ _ (stores_whole _ a size h (search rules))).1)
+pub returns-in-Ok-clause-account : goal.returns-in-Ok-clause-account
+returns-in-Ok-clause-account g c = λ tells b a h.
+    stand_all_synced _ _ b a h (search rules) (search rules) (c.sync.ensures.files tells) (c.sync.ensures.fits tells) c.sync.ensures.taking (search rules) (search rules) (search rules) (search rules) (search rules) (c.in-Ok.ensures.durable tells)

@@ -1,0 +1,125 @@
+//! All chunks that a writer has in hand.
+
+ghost use Rattle.std.specs.Prelude.{◌≡◌, true, false};
+ghost use Rattle.dir_files.specs.Ports.{IsEmptyPort};
+ghost use Rattle.writer_files.specs.Stocks.{HasClasses, IsStock, WaitsFresh};
+
+use dir_files::{Folder, FolderRefusal};
+use hr_base::{ChunkName, Class};
+use std::alloc::Global;
+
+/// All chunks that a writer has in hand, and the port that they go through. What each call makes of chunks, files and
+/// port stands in its clauses, and the words of these in `specs/`.
+pub struct WriterFiles<F: Folder> {
+    port: F,
+    /// A file was created since the last directory sync, or may have been.
+    fresh: bool,
+    ghost empty: { F.tells ≡ true → IsEmptyPort (F.port port) },
+    ghost not_fresh: { fresh ≡ false },
+}
+
+impl<F: Folder> WriterFiles<F> {
+    ghost use Rattle.std.specs.Prelude.{false, None, All, IfSome, IsOk, OnOk, length, option_map};
+    ghost use Rattle.hr_base.specs.declared.limits.TheConstants.{MAX_CHUNK_LIMIT};
+    ghost use Rattle.hr_base.specs.declared.name.Class.{Class};
+    ghost use Rattle.hr_base.specs.declared.name.ChunkName.{ChunkName};
+    ghost use Rattle.hr_base.specs.Names.{IsChunkName, class_of_kind};
+    ghost use Rattle.dir_files.specs.Faults.{is_fault};
+    ghost use Rattle.dir_files.specs.Files.{FileState, IsFile};
+    ghost use Rattle.dir_files.specs.PortCalls.{Counts, LeavesPort};
+    ghost use Rattle.dir_files.specs.Ports.{IsEmptyPort};
+    ghost use Rattle.dir_files.specs.PortStates.{IsGivenBack};
+    ghost use Rattle.value_chunk.specs.Chunks.{IsOneRecord};
+    ghost use Rattle.writer_chunks.specs.Lanes.{chunks, empty_lane, takes};
+    ghost use Rattle.writer_chunks.specs.LaneCalls.{BeginsFile, EachRises};
+    ghost use Rattle.writer_files.specs.Stocks.{lane_of, files_of, taking_of, IsReady, IsSettled, AllDurable};
+    ghost use Rattle.writer_files.specs.StockCalls.{BeginsAny, AppendsAny, ExtendsFile, KeepsTaking};
+    ghost use Rattle.writer_files.specs.StockViews.{port_of, stock};
+
+    /// No chunks, over a port without files. It takes no memory.
+    pub fn new(alloc: Global, port: F) -> WriterFiles<F>
+        requires { F.tells ≡ true → IsEmptyPort (F.port port) }
+        ensures port { port_of result ≡ port }
+        ensures lanes { (class : Class) → lane_of (stock result) class ≡ empty_lane class }
+        ensures fresh { (stock result).fresh ≡ false }
+        ensures files { F.tells ≡ true → (name : ChunkName) → files_of (stock result) name ≡ None }
+    {
+        let _unused = alloc;
+        WriterFiles { port, fresh: false }
+    }
+
+    /// How often the disk failed at the port, or the greatest number.
+    pub fn faults(&self) -> u64
+        ensures { result ≡ F.count (port_of self.now) }
+    {
+        self.port.faults()
+    }
+
+    /// Whether some chunk of the class takes records, and so many more bytes keep the limit there.
+    pub fn takes(&self, class: Class, len: u64, limit: u64) -> bool
+        ensures { result ≡ takes (lane_of (stock self.now) class) len limit }
+    {
+        false
+    }
+
+    /// The name of the chunk of the class that takes records.
+    pub fn name(&self, class: Class) -> Option<ChunkName>
+        ensures { result ≡ option_map (λ chunk. chunk.name) (lane_of (stock self.now) class).taking }
+    {
+        None
+    }
+
+    /// Creates the file of a chunk, which takes the records of its class from then on. The one before it is full.
+    pub fn begin(&mut self, name: ChunkName) -> Result<(), FolderRefusal>
+        requires valid { IsChunkName name }
+        requires whole { IfSome (lane_of (stock self.old) (class_of_kind name.kind)).taking
+            (λ chunk. chunk.torn ≡ false) }
+        requires free { F.tells ≡ true → files_of (stock self.old) name ≡ None }
+        ensures begun { BeginsAny F.tells result (stock self.old) (stock self.new) name }
+        ensures files { F.tells ≡ true
+            → BeginsFile result (files_of (stock self.old)) (files_of (stock self.new)) name }
+        ensures counts { Counts ⟦<F as Folder>⟧ (is_fault result) (port_of self.old) (port_of self.new) }
+    {
+        Err(FolderRefusal::Memory)
+    }
+
+    /// Appends one spelled record to the chunk of its class that takes records, and answers its offset. After `Fault` a
+    /// prefix of it may stand behind the others.
+    pub fn append(&mut self, class: Class, bytes: &[u8]) -> Result<u64, FolderRefusal>
+        requires spelled { IsOneRecord class bytes.now }
+        requires room { takes (lane_of (stock self.old) class) (length bytes.now) MAX_CHUNK_LIMIT ≡ true }
+        requires whole { IfSome (lane_of (stock self.old) class).taking (λ chunk. chunk.torn ≡ false) }
+        ensures appended { AppendsAny F.tells result (stock self.old) (stock self.new) class bytes.now }
+        ensures files { F.tells ≡ true → IfSome (lane_of (stock self.old) class).taking
+            (λ chunk. ExtendsFile result (files_of (stock self.old)) (files_of (stock self.new)) chunk.name bytes.now) }
+        ensures port { LeavesPort ⟦<F as Folder>⟧ (is_fault result) (port_of self.old) (port_of self.new) }
+    {
+        unreachable!()
+    }
+
+    /// Makes all records and names durable: the bytes of each file that has some past its front, then the names, where
+    /// a file was created since the last time. Then the full chunks are sealed, and their files lie at the port. It
+    /// makes no call of the folder where nothing is to be synced. After a refusal some files may have been synced.
+    pub fn sync(&mut self) -> Result<(), FolderRefusal>
+        ensures durable { F.tells ≡ true → OnOk result (AllDurable (files_of (stock self.new))) }
+        ensures settled { OnOk result (IsSettled (stock self.new)) }
+        ensures idle { IsSettled (stock self.old) → IsOk result × (self.new ≡ self.old) }
+        ensures taking { KeepsTaking (stock self.old) (stock self.new) }
+        ensures files { F.tells ≡ true → EachRises (files_of (stock self.old)) (files_of (stock self.new)) }
+        ensures fits { F.tells ≡ true → (name : ChunkName) (file : FileState)
+            → files_of (stock self.new) name ≡ Some file → IsFile file }
+        ensures counts { Counts ⟦<F as Folder>⟧ (is_fault result) (port_of self.old) (port_of self.new) }
+    {
+        Ok(())
+    }
+
+    /// Gives every file back, and hands out the port. It takes no memory.
+    pub fn close(self) -> F
+        ensures given { F.tells ≡ true → IsGivenBack (F.port result) }
+        ensures held { F.tells ≡ true → (name : ChunkName) → (F.port result).held name ≡ files_of (stock self) name }
+        ensures counts { Counts ⟦<F as Folder>⟧ false (port_of self) result }
+    {
+        let WriterFiles { port, fresh: _ } = self;
+        port
+    }
+}
