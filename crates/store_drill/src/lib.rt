@@ -2,7 +2,12 @@
 #![tactic(auto)]
 
 mod ended;
+mod lines;
+mod output;
 mod session;
+mod step;
+mod writers;
 
 pub use ended::Ended;
+pub use output::write_all;
 pub use session::play;

@@ -1,0 +1,87 @@
+-- Writers in a list, one for each partition: one of them changes, one more is there.
+use Rattle.std.specs.Prelude.{◌≡◌, ◌≢◌, ℕ, ◌+◌, ◌<◌, ◌≤◌, ◌==◌, Bool, true, false, List, [], ◌∷◌, ◌++◌, length, map, Option, Some, None, slice_get, slice_set, if◌then◌else◌, refl, zero, suc}
+use Rattle.std.proofs.Common.{sym, ◌∙◌, ap, subst, inl, inr, arith, eq-eqb, ◌⊎◌}
+use Rattle.std.proofs.lemmas.List.Sums.{get_or-le-sum_by, sum_by-set}
+use Rattle.script_text.specs.Replies.{changed_at}
+use Rattle.partition_writer.specs.Standing.{Standing}
+use Rattle.store_drill.specs.Writers.{EachFits, EachIs, faults_of}
+
+-- ---- lists
+
+get_set_same : {A : Type 0} (xs : List A) (i : ℕ) (x y : A) → slice_get (slice_set xs i x) i ≡ Some y → y ≡ x
+get_set_same [] i x y is = cc
+get_set_same (z ∷ xs) zero x y is = cc
+get_set_same (z ∷ xs) (suc i) x y is = get_set_same xs i x y is
+
+get_set_other : {A : Type 0} (xs : List A) (i j : ℕ) (x : A) → j ≢ i → slice_get (slice_set xs i x) j ≡ slice_get xs j
+get_set_other [] i j x apart = refl
+get_set_other (z ∷ xs) zero zero x apart = absurd (apart refl)
+get_set_other (z ∷ xs) zero (suc j) x apart = refl
+get_set_other (z ∷ xs) (suc i) zero x apart = refl
+get_set_other (z ∷ xs) (suc i) (suc j) x apart = get_set_other xs i j x (λ e. apart (ap suc e))
+
+pub get_at_end : {A : Type 0} (xs : List A) (x : A) (ys : List A) → slice_get (xs ++ x ∷ ys) (length xs) ≡ Some x
+get_at_end [] x ys = refl
+get_at_end (z ∷ xs) x ys = get_at_end xs x ys
+
+get_pushed : {A : Type 0} (xs : List A) (x y : A) (i : ℕ) → slice_get (xs ++ x ∷ []) i ≡ Some y → (slice_get xs i ≡ Some y) ⊎ ((i ≡ length xs) × (y ≡ x))
+get_pushed [] x y zero is = inr (refl, cc)
+get_pushed [] x y (suc i) is = cc
+get_pushed (z ∷ xs) x y zero is = inl is
+get_pushed (z ∷ xs) x y (suc i) is = elim (get_pushed xs x y i is) [ | inl h ↦ inl h | inr h ↦ inr (ap suc h.0, h.1) ]
+
+-- ---- one writer changes
+
+same_or_not : (p q : ℕ) → (p ≡ q) ⊎ (p ≢ q)
+same_or_not p q = grind arith
+
+changed_same : {A : Type 0} (values : ℕ → A) (q : ℕ) (value : A) → changed_at values q value q ≡ value
+changed_same values q value = let same : (q == q) ≡ true = eq-eqb q q refl in rw same refl
+
+changed_other : {A : Type 0} (values : ℕ → A) (p q : ℕ) (value : A) → p ≢ q → changed_at values q value p ≡ values p
+changed_other values p q value apart = let other : (p == q) ≡ false = grind arith in rw other refl
+
+pub each_changed : {A : Type 0} (says : A → Standing → Type 0) (writers : List Standing) (values : ℕ → A) (q : ℕ) (t : Standing) (value : A)
+    → EachFits says writers values → says value t → EachFits says (slice_set writers q t) (changed_at values q value)
+each_changed says writers values q t value each here p s is = elim (same_or_not p q) [
+  | inl same ↦
+      let at : slice_get (slice_set writers q t) q ≡ Some s = subst (λ (n : ℕ). slice_get (slice_set writers q t) n ≡ Some s) same is in
+      subst (λ (n : ℕ). says (changed_at values q value n) s) (sym same)
+      (subst (λ (v : _). says v s) (sym (changed_same values q value)) (subst (λ (u : Standing). says value u) (sym (get_set_same writers q t s at)) here))
+  | inr apart ↦
+      subst (λ (v : _). says v s) (sym (changed_other values p q value apart))
+      (each p s (sym (get_set_other writers q p t apart) ∙ is))
+]
+
+pub each_is_changed : (says : Standing → Type 0) (writers : List Standing) (q : ℕ) (t : Standing) → EachIs says writers → says t → EachIs says (slice_set writers q t)
+each_is_changed says writers q t each here p s is = elim (same_or_not p q) [
+  | inl same ↦
+      let at : slice_get (slice_set writers q t) q ≡ Some s = subst (λ (n : ℕ). slice_get (slice_set writers q t) n ≡ Some s) same is in
+      subst says (sym (get_set_same writers q t s at)) here
+  | inr apart ↦ each p s (sym (get_set_other writers q p t apart) ∙ is)
+]
+
+-- what was said of each of them lasts where it does of the one
+pub each_kept : {A : Type 0} (says : A → Standing → Type 0) (writers : List Standing) (values : ℕ → A) (q : ℕ) (t : Standing)
+    → EachFits says writers values → says (values q) t → EachFits says (slice_set writers q t) values
+each_kept says writers values q t each here p s is = elim (same_or_not p q) [
+  | inl same ↦
+      let at : slice_get (slice_set writers q t) q ≡ Some s = subst (λ (n : ℕ). slice_get (slice_set writers q t) n ≡ Some s) same is in
+      subst (λ (n : ℕ). says (values n) s) (sym same) (subst (λ (u : Standing). says (values q) u) (sym (get_set_same writers q t s at)) here)
+  | inr apart ↦ each p s (sym (get_set_other writers q p t apart) ∙ is)
+]
+
+-- ---- one more writer
+
+pub each_pushed : {A : Type 0} (says : A → Standing → Type 0) (writers : List Standing) (values : ℕ → A) (t : Standing)
+    → EachFits says writers values → says (values (length writers)) t → EachFits says (writers ++ t ∷ []) values
+each_pushed says writers values t each here p s is = elim (get_pushed writers t s p is) [
+  | inl before ↦ each p s before
+  | inr last ↦ subst (λ (n : ℕ). says (values n) s) (sym last.0) (subst (λ (u : Standing). says (values (length writers)) u) (sym last.1) here)
+]
+
+-- ---- faults
+
+-- where one port saw a fault, all together did
+pub faults_at : (writers : List Standing) (q : ℕ) (t : Standing) → q < length writers → 1 ≤ t.faults → 1 ≤ faults_of (slice_set writers q t)
+faults_at writers q t within some = omega (arith, sum_by-set (λ (s : Standing). s.faults) writers q t t within, get_or-le-sum_by (λ (s : Standing). s.faults) writers q t within)

@@ -1,0 +1,37 @@
+use Rattle.std.proofs.Common.{◌≡◌, ℕ, List, ◌++◌, length, None, Option, is_some, refl, sym, subst, ap, inr, ◌∙◌}
+use Rattle.std.specs.FinMap.{get}
+use Rattle.hr_base.specs.declared.name.Class.TheVariants.{Tomb}
+use Rattle.hr_base.specs.Entries.{Content, key_at}
+use Rattle.hr_base.specs.Records.{record_length}
+use Rattle.script_text.specs.declared.line.Line.TheVariants.{Remove}
+use Rattle.script_text.specs.Replies.{old_text}
+use Rattle.partition_writer.specs.Answers.{remove_record}
+use Rattle.partition_writer.specs.Standing.{Standing}
+use Rattle.partition_writer.specs.WriterViews.{standing}
+use Rattle.store_drill.specs.declared.step.Step.{Step}
+use Rattle.store_drill.specs.Playing.{Plays}
+use Rattle.store_drill.proofs.StepLaws.{Done, done_goes, done_maps, done_partition, is_spent, plays_answered, plays_refused, some_unless}
+use Rattle.store_drill.proofs.step.answer_remove.Goals as goal
+
+-- of an absent key nothing was written
+pub returns-in-Ok-None : goal.returns-in-Ok-None
+returns-in-Ok-None g c =
+    let s : Standing = standing c.args.writer.now in
+    let t : Standing = standing c.remove.new.self in
+    let key = key_at c.args.prefix c.args.key.now in
+    let none : get s.maps key ≡ None = sym (rw c.in-Ok-None.field-0-is at c.in-Ok-None.ensures.before) in
+    let r = remove_record s.next c.args.prefix c.args.key.now in
+    let done : Done s t r = inr (ap is_some none, ap (λ writer. standing writer) (c.in-Ok-None.ensures.absent none c.requires.running).1) in
+    plays_answered g.F.Folder.tells (Remove c.args.p c.args.prefix c.args.key.now) s t c.reply.new.text.items c.reply.result c.reply.ensures.only
+    (λ e. c.reply.ensures.text e ∙ ap (λ (before : List ℕ). before ++ old_text c.args.p.0 None) c.requires.cleared ∙ ap (λ (o : Option Content). old_text c.args.p.0 o) (sym none))
+    (done_maps s t r done) (done_goes s t r (c.in-Ok-None.ensures.disk.ok) done) (done_partition s t r done) c.in-Ok-None.ensures.account
+
+pub returns-in-Err : goal.returns-in-Err
+returns-in-Err g c =
+    let s : Standing = standing c.args.writer.now in
+    let line = Remove c.args.p c.args.prefix c.args.key.now in
+    subst (λ (step : Step). Plays g.F.Folder.tells step line s (standing c.remove.new.self) c.args.text.now.items) (sym c.refused.ensures)
+    (plays_refused _ g.F.Folder.tells line s (standing c.remove.new.self) c.args.text.now.items (remove_record s.next c.args.prefix c.args.key.now) c.in-Err.refusal
+        (c.in-Err.ensures.written (some_unless (get s.maps (key_at c.args.prefix c.args.key.now)) (λ none. let h = (c.in-Err.ensures.absent none c.requires.running).0 in cc)))
+        c.in-Err.ensures.disk.memory c.in-Err.ensures.disk.cause (λ at is. (c.in-Err.ensures.halted at).0 is) c.requires.running
+        (λ next is. is_spent s Tomb (record_length Tomb (length c.args.key.now) 0) next ((c.in-Err.ensures.spent next).0 is).2) (λ a. refl) c.in-Err.ensures.account)

@@ -1,0 +1,93 @@
+-- A line of a session, and lines one after another.
+use Rattle.std.specs.Prelude.{◌≡◌, ◌⊎◌, ℕ, ◌+◌, ◌≤◌, Bool, true, List, length, Option, Some, slice_get, slice_set}
+use Rattle.hr_base.specs.Counts.{Rose}
+use Rattle.hr_base.specs.declared.limits.TheConstants.{SEQ_END, CHUNK_NO_END, MAX_KEY_LEN, MAX_VALUE_LEN}
+use Rattle.hr_base.specs.Entries.{Entries}
+use Rattle.crash_law.specs.Accounts.{Account}
+use Rattle.script_text.specs.declared.line.Line.{Line}
+use Rattle.script_text.specs.declared.line.Line.TheVariants.{Put, Remove, Clear, Get, Sync}
+use Rattle.script_text.specs.Lines.{partition_of}
+use Rattle.script_text.specs.Replies.{maps_after_line, text_after}
+use Rattle.partition_writer.specs.Standing.{Standing, Beginning, Stands}
+use Rattle.partition_writer.specs.declared.refusal.WriteRefusal.{WriteRefusal}
+use Rattle.partition_writer.specs.declared.refusal.WriteRefusal.TheVariants.{Memory, DiskFault, Halted}
+use Rattle.partition_writer.specs.declared.refusal.WriteRefusal.TheVariants as refusal
+use Rattle.store_drill.specs.declared.ended.Ended.{Ended}
+use Rattle.store_drill.specs.declared.ended.Ended.TheVariants.{Whole, Disk}
+use Rattle.store_drill.specs.declared.step.Step.{Step}
+use Rattle.store_drill.specs.declared.step.Step.TheVariants.{Answered, NoReply, NoMemory, DiskFailed, Spent}
+use Rattle.store_drill.specs.Accounts.{account_after_line, account_after_refused, accounts_at}
+use Rattle.store_drill.specs.Sessions.{TextAt}
+use Rattle.store_drill.specs.Writers.{EachFits, EachIs, HasMaps, HasNumber, IsWhole, StandsAt}
+
+-- ---- one line
+
+-- its key and its value have lengths that those of a record may have
+abbrev pub FitsRecord : Line → Type 0
+FitsRecord (Put p prefix key value) = (length key ≤ MAX_KEY_LEN) × (length value ≤ MAX_VALUE_LEN)
+FitsRecord (Remove p prefix key) = length key ≤ MAX_KEY_LEN
+FitsRecord (Clear p prefix) = Unit {0}
+FitsRecord (Get p prefix key) = Unit {0}
+FitsRecord (Sync p) = Unit {0}
+
+-- the disk refused nothing, and at most one number of each kind was used up
+pub record GoesOn (s t : Standing) : Type 0 where
+  pub running : t.halted ≡ s.halted
+  pub whole : t.lost ≡ s.lost
+  pub next : t.next ≤ s.next + 1
+  pub next_chunk : t.next_chunk ≤ s.next_chunk + 1
+
+-- what became of a line that its writer refused
+abbrev pub step_of : WriteRefusal → Step
+step_of Memory = NoMemory
+step_of DiskFault = DiskFailed
+step_of (Halted at) = DiskFailed
+step_of (refusal.Spent next) = Spent next
+
+-- no record or no chunk can have the next number
+abbrev pub IsSpent : Standing → Type 0
+IsSpent s = (SEQ_END ≤ s.next) ⊎ (CHUNK_NO_END ≤ s.next_chunk)
+
+-- what is replied, and the maps after it
+abbrev pub Replies : Step → Line → Standing → Standing → List ℕ → Type 0
+Replies Answered line s t text = (text ≡ text_after line s.maps) × (t.maps ≡ maps_after_line line s.maps) × GoesOn s t
+Replies NoReply line s t text = (t.maps ≡ maps_after_line line s.maps) × GoesOn s t
+Replies NoMemory line s t text = (t.maps ≡ s.maps) × GoesOn s t
+Replies DiskFailed line s t text = (t.maps ≡ s.maps) × Rose s.faults t.faults
+Replies (Spent next) line s t text = IsSpent s × (t ≡ s)
+
+-- the account after it
+abbrev pub account_after_step : Step → Line → Account → Account
+account_after_step Answered line a = account_after_line line a
+account_after_step NoReply line a = account_after_line line a
+account_after_step NoMemory line a = a
+account_after_step DiskFailed line a = account_after_refused line a
+account_after_step (Spent next) line a = a
+
+-- a line was played on the writer of its partition
+pub record Plays (tells : Bool) (step : Step) (line : Line) (s t : Standing) (text : List ℕ) : Type 0 where
+  pub replies : Replies step line s t text
+  pub partition : t.partition ≡ s.partition
+  pub account : tells ≡ true → (b : Beginning) (a : Account) → Stands s b a → Stands t b (account_after_step step line a)
+
+-- and the other writers stay
+pub record PlaysAmong (tells : Bool) (step : Step) (line : Line) (old new : List Standing) (text : List ℕ) : Type 0 where
+  pub before : Standing
+  pub after : Standing
+  pub was : slice_get old (partition_of line) ≡ Some before
+  pub changed : new ≡ slice_set old (partition_of line) after
+  pub plays : Plays tells step line before after text
+
+-- ---- lines
+
+-- The lines were played from the first on, each on the writer of its partition, until the end or the first refusal.
+pub record Played (tells : Bool) (lines : List Line) (old new : List Standing) (before now : Option (List ℕ)) (ended : Ended) : Type 0 where
+  -- so many lines were answered
+  pub count : ℕ
+  pub within : count ≤ length lines
+  pub all : ended ≡ Whole → count ≡ length lines
+  pub text : (maps : ℕ → Entries) → EachFits HasMaps old maps → TextAt ended lines count maps before now
+  pub numbers : EachFits HasNumber old (λ p. p) → EachFits HasNumber new (λ p. p)
+  -- unless the disk refused a line, no record lacks bytes
+  pub whole : (ended ≡ Disk → ⊥) → EachIs IsWhole new
+  pub account : tells ≡ true → (accounts : ℕ → Account) → EachFits StandsAt old accounts → EachFits StandsAt new (accounts_at ended lines count accounts)

@@ -1,0 +1,52 @@
+//! The lines of a script, one after another.
+
+ghost use Rattle.std.specs.Prelude.{◌≡◌, ◌≤◌, ◌^◌, ℕ, length, All};
+ghost use Rattle.hr_base.specs.Counts.{Rose};
+ghost use Rattle.hr_base.specs.declared.name.ChunkName.{ChunkName};
+ghost use Rattle.script_text.specs.declared.line.Mode.TheVariants.{Play};
+ghost use Rattle.script_text.specs.Lines.{IsLine};
+ghost use Rattle.store_drill.specs.declared.ended.Ended.{Ended};
+ghost use Rattle.store_drill.specs.Playing.{Played};
+ghost use Rattle.store_drill.specs.Writers.{EachIs, Goes, faults_of, standings};
+
+use crate::ended::Ended;
+use crate::output::write_all;
+use crate::step::{Step, answer};
+use dir_files::Folder;
+use hr_edges::Sink;
+use partition_writer::Writer;
+use script_text::Line;
+use std::alloc::Global;
+
+/// Answers lines in order, each on the writer of its partition, and writes each reply after its line, to the end or to
+/// the first refusal.
+pub(crate) fn play_lines<F: Folder, K: Sink>(
+    alloc: Global,
+    writers: &mut [Writer<F>],
+    lines: &[Line],
+    out: &mut K,
+) -> Ended
+    requires valid { All (IsLine Play (length writers.old)) lines.now }
+    requires few { length lines.now ≤ 2 ^ 26 }
+    requires running { EachIs (Goes 1) (standings writers.old) }
+    ensures played { Played F.tells lines.now (standings writers.old) (standings writers.new) (K.taken out.old) (K.taken out.new) result }
+    ensures disk { result ≡ Ended.Disk → 1 ≤ faults_of (standings writers.new) }
+    ensures sink { result ≡ Ended.Sink → Rose (K.count out.old) (K.count out.new) }
+    ensures not_built { (name : ChunkName) → result ≡ Ended.NotBuilt name → ⊥ }
+    ensures unspent { (next : ℕ) → result ≡ Ended.Spent next → ⊥ }
+    ensures sink_kept { K.count out.old ≤ K.count out.new }
+{
+    let mut text = Vec::new(alloc);
+    for line in lines {
+        match answer(writers, line, &mut text) {
+            Step::Answered => {}
+            Step::NoReply | Step::NoMemory => return Ended::Memory,
+            Step::DiskFailed => return Ended::Disk,
+            Step::Spent { next } => return Ended::Spent { next },
+        }
+        if write_all(out, text.as_slice()).is_err() {
+            return Ended::Sink;
+        }
+    }
+    Ended::Whole
+}
