@@ -1,2 +1,3 @@
+mod SessionLaws
 mod StepLaws
 mod WriterListLaws

@@ -1,7 +1,8 @@
-use Rattle.std.proofs.Common.{◌≡◌, ◌<◌, ℕ, List, Option, Some, length, slice_get, slice_set, refl, sym, subst, ap, ◌∙◌}
+use Rattle.std.proofs.Common.{◌≡◌, ◌<◌, ℕ, List, Option, Some, length, slice_get, slice_set, get_or, refl, sym, subst, ap, ◌∙◌, arith}
 use Rattle.std.specs.Option.{option_map}
 use Rattle.std.proofs.lemmas.Option.{slice_get-get_or, slice_get-map}
 use Rattle.std.proofs.lemmas.List.{map-set}
+use Rattle.script_text.specs.declared.line.Mode.TheVariants.{Play}
 use Rattle.script_text.specs.Lines.{partition_of}
 use Rattle.partition_writer.specs.Standing.{Standing}
 use Rattle.partition_writer.specs.WriterViews.{standing}
@@ -10,7 +11,28 @@ use Rattle.store_drill.proofs.StepLaws.{fits_record, of_partition}
 use Rattle.store_drill.proofs.step.answer.Goals as goal
 
 pub answer_on-requires-clause-running : goal.answer_on-requires-clause-running
-answer_on-requires-clause-running g c = ?
+answer_on-requires-clause-running g c =
+    let writers = c.args.writers.now in
+    let at : ℕ = c.place-at.result in
+    let within : at < length writers = omega (arith, c.place-at.ensures, of_partition Play (length writers) c.args.line.now c.requires.valid) in
+    let writer = get_or writers at c.index-writers-at.result in
+    c.requires.running at (standing writer) (slice_get-map (λ w. standing w) writers at ∙ ap (option_map (λ w. standing w)) (slice_get-get_or writers at c.index-writers-at.result within))
 
 pub returns : goal.returns
-returns g c = ?
+returns g c =
+    let writers = c.args.writers.now in
+    let at : ℕ = c.place-at.result in
+    let p : ℕ = partition_of c.args.line.now in
+    let within : at < length writers = omega (arith, c.place-at.ensures, of_partition Play (length writers) c.args.line.now c.requires.valid) in
+    let writer = get_or writers at c.index-writers-at.result in
+    record {
+      before = standing writer;
+      after = standing c.answer_on.new.writer;
+      was =
+          subst (λ (n : ℕ). slice_get (standings writers) n ≡ Some (standing writer)) c.place-at.ensures
+          (slice_get-map (λ w. standing w) writers at ∙ ap (option_map (λ w. standing w)) (slice_get-get_or writers at c.index-writers-at.result within));
+      changed =
+          map-set (λ w. standing w) writers at c.answer_on.new.writer
+          ∙ ap (λ (n : ℕ). slice_set (standings writers) n (standing c.answer_on.new.writer)) c.place-at.ensures;
+      plays = c.answer_on.ensures;
+    }
