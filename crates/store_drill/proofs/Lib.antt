@@ -1,3 +1,4 @@
+mod FolderLaws
 mod SessionLaws
 mod StepLaws
 mod WriterListLaws

@@ -1,9 +1,10 @@
 -- A line of a session, and lines one after another.
-use Rattle.std.specs.Prelude.{◌≡◌, ◌⊎◌, ℕ, ◌+◌, ◌≤◌, Bool, true, List, length, Option, Some, slice_get, slice_set}
+use Rattle.std.specs.Prelude.{◌≡◌, ◌⊎◌, ℕ, ◌+◌, ◌<◌, ◌≤◌, Bool, true, List, length, Option, Some, slice_get, slice_set}
+use Rattle.std.specs.FinMap.{empty}
 use Rattle.hr_base.specs.Counts.{Rose}
 use Rattle.hr_base.specs.declared.limits.TheConstants.{SEQ_END, CHUNK_NO_END, MAX_KEY_LEN, MAX_VALUE_LEN}
 use Rattle.hr_base.specs.Entries.{Entries}
-use Rattle.crash_law.specs.Accounts.{Account}
+use Rattle.crash_law.specs.Accounts.{Account, fresh_account}
 use Rattle.script_text.specs.declared.line.Line.{Line}
 use Rattle.script_text.specs.declared.line.Line.TheVariants.{Put, Remove, Clear, Get, Sync}
 use Rattle.script_text.specs.Lines.{partition_of}
@@ -91,3 +92,18 @@ pub record Played (tells : Bool) (lines : List Line) (old new : List Standing) (
   -- unless the disk refused a line, no record lacks bytes
   pub whole : (ended ≡ Disk → ⊥) → EachIs IsWhole new
   pub account : tells ≡ true → (accounts : ℕ → Account) → EachFits StandsAt old accounts → EachFits StandsAt new (accounts_at ended lines count accounts)
+
+-- ---- a session
+
+-- The writers after a session that began, with so many partitions. Where there was no memory for all of them, no line was
+-- played, and a partition without a writer has nothing.
+pub record Left (tells : Bool) (partitions : ℕ) (lines : List Line) (writers : List Standing) (before now : Option (List ℕ)) (ended : Ended) : Type 0 where
+  pub count : ℕ
+  pub within : count ≤ length lines
+  pub all : ended ≡ Whole → count ≡ length lines
+  pub text : TextAt ended lines count (λ _. empty) before now
+  pub few : length writers ≤ partitions
+  pub numbers : EachFits HasNumber writers (λ p. p)
+  pub whole : (ended ≡ Disk → ⊥) → EachIs IsWhole writers
+  pub account : tells ≡ true → EachFits StandsAt writers (accounts_at ended lines count (λ _. fresh_account empty))
+  pub others : (p : ℕ) → length writers ≤ p → p < partitions → accounts_at ended lines count (λ _. fresh_account empty) p ≡ fresh_account empty

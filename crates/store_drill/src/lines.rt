@@ -40,12 +40,14 @@ pub(crate) fn play_lines<F: Folder, K: Sink>(
     for line in lines {
         match answer(writers, line, &mut text) {
             Step::Answered => {}
-            Step::NoReply | Step::NoMemory => return Ended::Memory,
+            Step::NoReply => return Ended::Memory,
+            Step::NoMemory => return Ended::Memory,
             Step::DiskFailed => return Ended::Disk,
             Step::Spent { next } => return Ended::Spent { next },
         }
-        if write_all(out, text.as_slice()).is_err() {
-            return Ended::Sink;
+        match write_all(out, text.as_slice()) {
+            Ok(()) => {}
+            Err(_) => return Ended::Sink,
         }
     }
     Ended::Whole

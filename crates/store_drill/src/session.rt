@@ -1,17 +1,20 @@
 //! A session over a folder.
 
 ghost use Rattle.std.specs.Ordering.{is_lt};
-ghost use Rattle.std.specs.Prelude.{◌≡◌, ◌≤◌, ◌^◌, ℕ, true, false, [], length, All, Contains, None, IfOk, IfSome, IfNone, IsErrOf};
+ghost use Rattle.std.specs.Prelude.{◌≡◌, ◌≤◌, ◌^◌, ℕ, true, false, [], length, All, Contains, None, IfOk, IfSome, IfNone, IsErrOf, vec_capacity};
 ghost use Rattle.hr_base.specs.declared.name.ChunkName.{ChunkName};
-ghost use Rattle.hr_base.specs.Names.{IsChunkName, IsUpTo};
+ghost use Rattle.hr_base.specs.Names.{IsChunkName};
 ghost use Rattle.hr_base.specs.Counts.{Rose};
 ghost use Rattle.hr_base.specs.LimitRanges.{IsLimits};
+ghost use Rattle.dir_files.specs.Ports.{SamePort};
 ghost use Rattle.dir_files.specs.PortStates.{IsCalm, IsVacant};
 ghost use Rattle.script_text.specs.declared.line.Mode.TheVariants.{Play};
 ghost use Rattle.script_text.specs.Lines.{IsLine};
 ghost use Rattle.store_drill.specs.declared.ended.Ended.{Ended};
 ghost use Rattle.store_drill.specs.Listing.{KeepsImages};
+ghost use Rattle.store_drill.specs.Playing.{Left};
 ghost use Rattle.store_drill.specs.Sessions.{IsFirstHeld, Ran, outside};
+ghost use Rattle.store_drill.specs.Writers.{faults_of, standings};
 
 use crate::ended::Ended;
 use crate::lines::play_lines;
@@ -19,6 +22,7 @@ use crate::writers::{close_writers, open_writers};
 use dir_files::{Folder, FolderRefusal};
 use hr_base::{ChunkName, Limits};
 use hr_edges::Sink;
+use partition_writer::Writer;
 use script_text::Line;
 use std::alloc::Global;
 
@@ -50,6 +54,35 @@ fn first_name<F: Folder>(folder: &mut F) -> Result<Option<ChunkName>, FolderRefu
     Ok(least_name(names.as_slice()))
 }
 
+/// Opens the writers, and plays the lines on them. Where there is no memory for all writers, no line is played.
+fn play_opened<F: Folder, K: Sink>(
+    alloc: Global,
+    lines: &[Line],
+    limits: &Limits,
+    folder: &mut F,
+    out: &mut K,
+    writers: &mut Vec<Writer<F>>,
+) -> Ended
+    requires limits { IsLimits limits.now }
+    requires valid { All (IsLine Play limits.now.partitions) lines.now }
+    requires few { length lines.now ≤ 2 ^ 26 }
+    requires none { writers.old.items ≡ [] }
+    requires room { limits.now.partitions ≤ vec_capacity writers.old }
+    ensures left { Left F.tells limits.now.partitions lines.now (standings writers.new.items) (K.taken out.old) (K.taken out.new) result }
+    ensures same { F.tells ≡ true → SamePort (F.port folder.old) (F.port folder.new) }
+    ensures count { F.count folder.new ≡ F.count folder.old }
+    ensures not_built { (name : ChunkName) → result ≡ Ended.NotBuilt name → ⊥ }
+    ensures disk { result ≡ Ended.Disk → 1 ≤ faults_of (standings writers.new.items) }
+    ensures sink { result ≡ Ended.Sink → Rose (K.count out.old) (K.count out.new) }
+    ensures unspent { (next : ℕ) → result ≡ Ended.Spent next → ⊥ }
+    ensures sink_kept { K.count out.old ≤ K.count out.new }
+{
+    match open_writers(alloc, limits, folder, writers) {
+        Ok(()) => play_lines(alloc, writers.as_mut_slice(), lines, out),
+        Err(_) => Ended::Memory,
+    }
+}
+
 /// Plays lines over a folder without chunk files.
 fn play_vacant<F: Folder, K: Sink>(
     alloc: Global,
@@ -75,10 +108,7 @@ fn play_vacant<F: Folder, K: Sink>(
     let Ok(mut writers) = Vec::with_capacity(alloc, limits.partitions as usize) else {
         return Ended::Memory;
     };
-    let ended = match open_writers(alloc, limits, folder, &mut writers) {
-        Ok(()) => play_lines(alloc, writers.as_mut_slice(), lines, out),
-        Err(_) => Ended::Memory,
-    };
+    let ended = play_opened(alloc, lines, limits, folder, out, &mut writers);
     close_writers(writers, folder);
     ended
 }
