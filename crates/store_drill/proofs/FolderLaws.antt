@@ -28,7 +28,8 @@ use Rattle.store_drill.specs.declared.ended.Ended.{Ended}
 use Rattle.store_drill.specs.declared.ended.Ended.TheVariants.{Disk, Memory}
 use Rattle.store_drill.specs.Accounts.{accounts_at}
 use Rattle.store_drill.specs.Playing.{Left, Played}
-use Rattle.store_drill.specs.Sessions.{Outside, Session}
+use Rattle.store_drill.specs.Listing.{KeepsImages}
+use Rattle.store_drill.specs.Sessions.{Outside, Ran, Session}
 use Rattle.store_drill.specs.Writers.{Begins, EachFits, EachIs, Goes, HasMaps, HasNumber, IsWhole, OwnsFiles, StandsAt, beginning, faults_of, files_at, files_in}
 use Rattle.store_drill.proofs.WriterListLaws.{get_at_end}
 
@@ -283,3 +284,25 @@ session_ran tells partitions lines writers old new ended left vacant given_back 
   exact = λ y other.
       all_read partitions writers (accounts_at ended lines left.count (λ _. fresh_account empty)) new.port (left.account y) left.numbers left.few left.others (given_back y) (held y) (left.whole other);
 }
+
+-- and the calls before it left each file as it was
+pub ran_after : (tells : Bool) (partitions : ℕ) (lines : List Line) (old mid : Port) (faults more : ℕ) (taken : Option (List ℕ)) (new : Outside) (ended : Ended)
+    → (tells ≡ true → KeepsImages old mid) → (tells ≡ true → (name : ChunkName) → old.held name ≡ None)
+    → Ran tells partitions lines (record { port = mid; faults = more; taken = taken }) new ended → Ran tells partitions lines (record { port = old; faults = faults; taken = taken }) new ended
+ran_after tells partitions lines old mid faults more taken new ended keeps none ran = elim ran [
+  | inl refused ↦ inl (record {
+    unfinished = refused.unfinished;
+    silent = refused.silent;
+    read = λ y name. refused.read y name ∙ (keeps y).read name;
+    images = λ y image is. (keeps y).images image (refused.images y image is);
+  })
+  | inr session ↦ inr (record {
+    count = session.count;
+    within = session.within;
+    all = session.all;
+    text = session.text;
+    fresh = none;
+    survives = session.survives;
+    exact = session.exact;
+  })
+]

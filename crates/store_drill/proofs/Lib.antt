@@ -1,4 +1,5 @@
 mod FolderLaws
+mod NameLaws
 mod SessionLaws
 mod StepLaws
 mod WriterListLaws
