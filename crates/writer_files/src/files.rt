@@ -36,7 +36,7 @@ impl<F: Folder> WriterFiles<F> {
     ghost use Rattle.value_chunk.specs.Chunks.{IsOneRecord};
     ghost use Rattle.writer_chunks.specs.Lanes.{chunks, empty_lane, takes};
     ghost use Rattle.writer_chunks.specs.LaneCalls.{BeginsFile, EachRises};
-    ghost use Rattle.writer_files.specs.Stocks.{lane_of, files_of, taking_of, IsReady, IsSettled, AllDurable};
+    ghost use Rattle.writer_files.specs.Stocks.{lane_of, files_of, taking_of, IsReady, IsSettled, AllDurable, EachSynced, HasSynced};
     ghost use Rattle.writer_files.specs.StockCalls.{BeginsAny, AppendsAny, ExtendsFile, KeepsTaking};
     ghost use Rattle.writer_files.specs.StockViews.{port_of, stock};
 
@@ -135,6 +135,49 @@ impl<F: Folder> WriterFiles<F> {
         if self.fresh {
             self.sync_names()?;
         }
+        Ok(())
+    }
+
+    /// The lane of the class.
+    fn lane(&self, class: Class) -> &Lane<F>
+        ensures { result.now ≡ lane_of (stock self.now) class }
+    {
+        match class {
+            Class::Value => &self.values,
+            Class::Tomb => &self.tombs,
+            Class::Clear => &self.clears,
+        }
+    }
+
+    /// Makes the bytes of each file in hand durable.
+    fn sync_bytes(&mut self) -> Result<(), FolderRefusal>
+        ensures synced { OnOk result (EachSynced F.tells (stock self.new)) }
+        ensures fresh { (stock self.new).fresh ≡ (stock self.old).fresh }
+        ensures idle { HasSynced (stock self.old) → IsOk result × (self.new ≡ self.old) }
+        ensures taking { KeepsTaking (stock self.old) (stock self.new) }
+        ensures files { F.tells ≡ true → EachRises (files_of (stock self.old)) (files_of (stock self.new)) }
+        ensures counts { Counts ⟦<F as Folder>⟧ (is_fault result) (port_of self.old) (port_of self.new) }
+    {
+        self.values.sync(&mut self.port)?;
+        self.tombs.sync(&mut self.port)?;
+        self.clears.sync(&mut self.port)
+    }
+
+    /// Makes the names durable, and gives the files of full chunks back.
+    fn sync_names(&mut self) -> Result<(), FolderRefusal>
+        requires synced { EachSynced F.tells (stock self.old) }
+        requires fresh { (stock self.old).fresh ≡ true }
+        ensures durable { F.tells ≡ true → OnOk result (AllDurable (files_of (stock self.new))) }
+        ensures settled { OnOk result (IsSettled (stock self.new)) }
+        ensures taking { KeepsTaking (stock self.old) (stock self.new) }
+        ensures files { F.tells ≡ true → EachRises (files_of (stock self.old)) (files_of (stock self.new)) }
+        ensures counts { Counts ⟦<F as Folder>⟧ (is_fault result) (port_of self.old) (port_of self.new) }
+    {
+        self.port.sync_names()?;
+        self.values.settle(&mut self.port)?;
+        self.tombs.settle(&mut self.port)?;
+        self.clears.settle(&mut self.port)?;
+        self.fresh = false;
         Ok(())
     }
 
