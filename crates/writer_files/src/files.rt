@@ -2,6 +2,7 @@
 
 ghost use Rattle.std.specs.Prelude.{◌≡◌, true};
 ghost use Rattle.writer_files.specs.Stocks.{HasClasses, IsStock, WaitsFresh};
+ghost use Rattle.writer_files.specs.StockCalls.{fresh_after};
 
 use dir_files::{Folder, FolderRefusal};
 use hr_base::{ChunkName, Class, class_of};
@@ -20,6 +21,16 @@ pub struct WriterFiles<F: Folder> {
     ghost classes: { HasClasses (record { port = F.port port; values = values; tombs = tombs; clears = clears; fresh = fresh }) },
     ghost waits: { WaitsFresh (record { port = F.port port; values = values; tombs = tombs; clears = clears; fresh = fresh }) },
     ghost stocked: { F.tells ≡ true → IsStock (record { port = F.port port; values = values; tombs = tombs; clears = clears; fresh = fresh }) },
+}
+
+/// Whether a file may have been created since the last directory sync, after one was to be.
+fn is_fresh_after(fresh: bool, begun: Result<(), FolderRefusal>) -> bool
+    ensures { result ≡ fresh_after fresh begun }
+{
+    match begun {
+        Ok(()) | Err(FolderRefusal::Fault) => true,
+        Err(FolderRefusal::Memory) => fresh,
+    }
 }
 
 impl<F: Folder> WriterFiles<F> {
@@ -94,9 +105,7 @@ impl<F: Folder> WriterFiles<F> {
             Class::Tomb => self.tombs.begin(&mut self.port, name),
             Class::Clear => self.clears.begin(&mut self.port, name),
         };
-        if begun != Err(FolderRefusal::Memory) {
-            self.fresh = true;
-        }
+        self.fresh = is_fresh_after(self.fresh, begun);
         begun
     }
 
