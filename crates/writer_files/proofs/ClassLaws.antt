@@ -6,11 +6,13 @@ use Rattle.hr_base.specs.declared.name.Class.{Class}
 use Rattle.hr_base.specs.declared.name.Class.TheVariants.{Value, Tomb, Clear}
 use Rattle.hr_base.specs.declared.name.ChunkName.{ChunkName}
 use Rattle.hr_base.specs.Names.{class_of_kind}
-use Rattle.dir_files.specs.Files.{FileState, IsFile, ChangesAt, SameAt}
+use Rattle.dir_files.specs.Files.{FileState, IsFile, Rises, ChangesAt, SameAt}
 use Rattle.dir_files.specs.Ports.{Port, SamePort, IsEmptyPort, IsFreeName, either_file}
 use Rattle.value_chunk.specs.Chunks.{Chunk}
 use Rattle.writer_chunks.specs.Lanes.{LaneState, chunks, empty_lane, file_among, seen}
+use Rattle.writer_chunks.specs.LaneCalls.{EachRises}
 use Rattle.writer_chunks.specs.PortFits.{FitsPort, LeavesOthers}
+use Rattle.writer_chunks.proofs.FileLaws.{rises_same}
 use Rattle.writer_chunks.proofs.FitLaws.{fits_others}
 use Rattle.writer_files.specs.Stocks.{Stock, HasClasses, IsStock, lane_of, files_of}
 use Rattle.writer_files.specs.StockCalls.{KeepsOthers}
@@ -168,3 +170,12 @@ module _ (old new : Stock) (class : Class) (others : KeepsOthers class old new) 
         | inr apart ↦ files_apart n apart
       ];
     }
+
+    pub files_rise : EachRises (seen old.port (lane_of old class)) (seen new.port (lane_of new class)) → EachRises (files_of old) (files_of new)
+    files_rise rises n = elim (same_class_or_not (class_of_kind n.kind) class) [
+      | inl of ↦
+          subst (λ (now : Option FileState). Rises (files_of old n) now) (sym (files_here new class n of))
+          (subst (λ (was : Option FileState). Rises was (seen new.port (lane_of new class) n)) (sym (files_here old class n of)) (rises n))
+      | inr apart ↦
+          subst (λ (now : Option FileState). Rises (files_of old n) now) (sym (files_apart n apart)) (rises_same (files_of old n))
+    ]
