@@ -1,3 +1,4 @@
 pub mod ClassLaws
 pub mod CallLaws
 pub mod StepLaws
+pub mod SettledLaws

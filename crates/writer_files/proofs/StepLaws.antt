@@ -4,16 +4,18 @@ use Rattle.std.proofs.Props.{props}
 use Rattle.std.specs.List.{AllZip}
 use Rattle.hr_base.specs.declared.name.Class.{Class}
 use Rattle.hr_base.specs.declared.name.ChunkName.{ChunkName}
+use Rattle.hr_base.specs.Names.{class_of_kind}
 use Rattle.hr_base.specs.declared.name.Named.{Ghosts as NamedGhosts}
 use Rattle.dir_files.specs.declared.folder.Folder.{Ghosts as FolderGhosts}
 use Rattle.dir_files.specs.declared.folder.FolderRefusal.{FolderRefusal}
-use Rattle.dir_files.specs.Files.{FileState, Files, Rises}
-use Rattle.dir_files.specs.Ports.{SamePort}
+use Rattle.dir_files.specs.Files.{FileState, Files, Rises, SameAt}
+use Rattle.dir_files.specs.Ports.{SamePort, either_file}
 use Rattle.value_chunk.specs.Chunks.{Chunk}
 use Rattle.value_chunk.specs.Calls.{IsKept}
-use Rattle.writer_chunks.specs.Lanes.{LaneState, chunks, seen}
+use Rattle.writer_chunks.specs.Lanes.{LaneState, chunks, file_among, seen}
 use Rattle.writer_chunks.specs.LaneCalls.{EachChunk, EachRises, IsSynced}
 use Rattle.writer_chunks.specs.PortFits.{FitsPort}
+use Rattle.writer_chunks.proofs.FitLaws.{fits_same}
 use Rattle.writer_files.specs.declared.files.WriterFiles.{WriterFiles}
 use Rattle.writer_files.specs.Stocks.{Stock, HasClasses, IsStock, WaitsFresh, EachSynced, lane_of, files_of}
 use Rattle.writer_files.specs.StockCalls.{KeepsOthers}
@@ -61,6 +63,21 @@ module _ (tells : Bool) (old new : Stock) (class : Class) (others : KeepsOthers 
         (zip_none (IsKept tells) (lane_of old class).full (lane_of new class).full each.full (none class));
     stocked = λ told. rose_stock (same told) (rises told) (here told) whole.classes (whole.stocked told);
   }
+
+moved_files : (old new : Stock) → ((class : Class) → lane_of new class ≡ lane_of old class) → SamePort old.port new.port → SameAt (files_of old) (files_of new)
+moved_files old new same port n =
+    ap (λ (lane : LaneState). seen new.port lane n) (same (class_of_kind n.kind))
+    ∙ ap (λ (held : Option FileState). either_file (file_among (chunks (lane_of old (class_of_kind n.kind))) n) held) (port.held n)
+
+-- the port is another one that looks the same
+pub moved_stock : (old new : Stock) → ((class : Class) → lane_of new class ≡ lane_of old class) → SamePort old.port new.port → new.fresh ≡ old.fresh → IsStock old → IsStock new
+moved_stock old new same port fresh is = record {
+  fits = λ class.
+      subst (λ (lane : LaneState). FitsPort new.port lane) (sym (same class)) (fits_same old.port new.port (lane_of old class) port (is.fits class));
+  front = same_fronts old.port.held new.port.held port.held is.front;
+  named = λ stale n file seen.
+      is.named (sym fresh ∙ stale) n file (sym (moved_files old new same port n) ∙ seen);
+}
 
 pub each_synced : (tells : Bool) (whole : Stock) (r : Result (Unit {0}) FolderRefusal) → All (λ c. IsSynced tells c) (chunks whole.values) → All (λ c. IsSynced tells c) (chunks whole.tombs) → OnOk r (All (λ c. IsSynced tells c) (chunks whole.clears)) → OnOk r (EachSynced tells whole)
 each_synced tells whole (Ok done) value tomb clear =
