@@ -2,7 +2,7 @@
 use Rattle.std.proofs.Common.{◌≡◌, ◌≢◌, Bool, true, false, cond, List, [], ◌∷◌, ◌++◌, length, Option, Some, None, is_some, option_map, IfSome, IsSomeAnd, Result, Ok, All, refl, ap, sym, ◌∙◌, subst, inl, inr, arith}
 use Rattle.std.specs.Option.{option_to_list}
 use Rattle.std.proofs.lemmas.Bool.{cases_Bool, false≢true}
-use Rattle.std.proofs.lemmas.List.Elements.{All-head, All-tail}
+use Rattle.std.proofs.lemmas.List.Elements.{All-head, All-tail, All-weaker}
 use Rattle.hr_base.specs.declared.name.Class.{Class}
 use Rattle.hr_base.specs.declared.name.Class.TheVariants.{Value, Tomb, Clear}
 use Rattle.hr_base.specs.declared.name.ChunkName.{ChunkName}
@@ -18,7 +18,7 @@ use Rattle.writer_chunks.specs.PortFits.{FitsPort, LeavesOthers}
 use Rattle.writer_chunks.proofs.FileLaws.{keeps_same, rises_same, rises_beside, zip_all, file_among-here, file_among-past}
 use Rattle.writer_chunks.proofs.FitLaws.{all_fixed, fits_others, fits_same, fits_synced_names, fixed_others}
 use Rattle.writer_chunks.proofs.LaneSyncLaws.{all_back}
-use Rattle.writer_files.specs.Stocks.{Stock, AllDurable, HasClasses, IsStock, lane_of, files_of}
+use Rattle.writer_files.specs.Stocks.{Stock, AllDurable, EachSynced, HasClasses, IsStock, lane_of, files_of}
 use Rattle.writer_files.proofs.ClassLaws.{classes_of, each_class}
 use Rattle.writer_files.proofs.CallLaws.{HasFronts}
 
@@ -60,23 +60,49 @@ some_durable : (o : Option FileState) → IsSomeAnd o IsDurable → IfSome o IsD
 some_durable None durable = tt
 some_durable (Some f) durable = durable
 
-among_is_file : (cs : List Chunk) → All (λ c. IsFile c.file) cs → (n : ChunkName) (f : FileState) → file_among cs n ≡ Some f → IsFile f
-among_is_file [] all n f is = absurd cc
-among_is_file (c ∷ cs) all n f is = elim (cases_Bool (is_name c.name n)) [
+among_holds : (P : FileState → Type 0) (cs : List Chunk) → All (λ c. P c.file) cs → (n : ChunkName) (f : FileState) → file_among cs n ≡ Some f → P f
+among_holds P [] all n f is = absurd cc
+among_holds P (c ∷ cs) all n f is = elim (cases_Bool (is_name c.name n)) [
   | inl here ↦
       let same : c.file ≡ f = let e : Some c.file ≡ Some f = sym (file_among-here c cs n here) ∙ is in cc in
-      subst IsFile same (All-head (λ c. IsFile c.file) c cs all)
-  | inr past ↦ among_is_file cs (All-tail (λ c. IsFile c.file) c cs all) n f (sym (file_among-past c cs n past) ∙ is)
+      subst P same (All-head (λ c. P c.file) c cs all)
+  | inr past ↦ among_holds P cs (All-tail (λ c. P c.file) c cs all) n f (sym (file_among-past c cs n past) ∙ is)
 ]
 
-either_is_file : (x h : Option FileState) (f : FileState) → (x ≡ Some f → IsFile f) → (h ≡ Some f → IsFile f) → either_file x h ≡ Some f → IsFile f
-either_is_file None h f in_hand held is = held is
-either_is_file (Some g) h f in_hand held is = in_hand is
+either_holds : (P : FileState → Type 0) (x h : Option FileState) (f : FileState) → (x ≡ Some f → P f) → (h ≡ Some f → P f) → either_file x h ≡ Some f → P f
+either_holds P None h f in_hand held is = held is
+either_holds P (Some g) h f in_hand held is = in_hand is
+
+-- what holds of the files in hand and of those that lie at the port holds of each that is seen
+seen_holds : (P : FileState → Type 0) (p : Port) (lane : LaneState) → All (λ c. P c.file) (chunks lane) → (n : ChunkName) (f : FileState) → (p.held n ≡ Some f → P f) → seen p lane n ≡ Some f → P f
+seen_holds P p lane all n f held =
+    either_holds P (file_among (chunks lane) n) (p.held n) f (among_holds P (chunks lane) all n f) held
 
 -- a crash keeps of each file that is seen what is there
-pub seen_is_file : (p : Port) (lane : LaneState) → IsPort p → FitsPort p lane → (n : ChunkName) (f : FileState) → seen p lane n ≡ Some f → IsFile f
-seen_is_file p lane lawful fits n f =
-    either_is_file (file_among (chunks lane) n) (p.held n) f (among_is_file (chunks lane) fits.files n f) (lawful.held_fits n f)
+seen_is_file : (p : Port) (lane : LaneState) → IsPort p → FitsPort p lane → (n : ChunkName) (f : FileState) → seen p lane n ≡ Some f → IsFile f
+seen_is_file p lane lawful fits n f = seen_holds IsFile p lane fits.files n f (lawful.held_fits n f)
+
+pub files_are_files : (stock : Stock) → IsStock stock → IsPort stock.port → (n : ChunkName) (f : FileState) → files_of stock n ≡ Some f → IsFile f
+files_are_files stock is lawful n f =
+    seen_is_file stock.port (lane_of stock (class_of_kind n.kind)) lawful (is.fits (class_of_kind n.kind)) n f
+
+-- ---- files whose names are durable already
+
+some_holds : (P : FileState → Type 0) (o : Option FileState) → ((f : FileState) → o ≡ Some f → P f) → IfSome o P
+some_holds P None holds = tt
+some_holds P (Some f) holds = holds f refl
+
+pub synced_durable : (tells : Bool) (stock : Stock) → tells ≡ true → IsStock stock → stock.fresh ≡ false → EachSynced tells stock → AllDurable (files_of stock)
+synced_durable tells stock told is stale synced n =
+    let lane = lane_of stock (class_of_kind n.kind) in
+    let fronts : All (λ c. c.file.front ≡ length c.file.bytes) (chunks lane) =
+    All-weaker (λ c. IsSynced tells c) (λ c. c.file.front ≡ length c.file.bytes) (λ c is_synced. is_synced.front told) (chunks lane) (synced (class_of_kind n.kind)) in
+    some_holds IsDurable (files_of stock n) (λ f seen_there. record {
+      front = seen_holds (λ x. x.front ≡ length x.bytes) stock.port lane fronts n f (is.front n f) seen_there;
+      named = is.named stale n f seen_there;
+    })
+
+-- ---- files at the port
 
 lent_absent : (x : Option FileState) → false ≡ is_some x → x ≡ None
 lent_absent None e = refl
