@@ -18,7 +18,8 @@ use crate::storing::{chosen, kind_for, store};
 use bytes::Bytes;
 use dir_files::{Folder, FolderRefusal};
 use hr_base::{
-    CHUNK_NO_END, ChunkName, ChunkNo, Class, Limits, MAX_KEY_LEN, MAX_VALUE_LEN, Partition, SEQ_END, Seq,
+    CHUNK_NO_END, ChunkName, ChunkNo, Class, Limits, MAX_KEY_LEN, MAX_VALUE_LEN, Partition,
+    SEQ_END, Seq,
 };
 use ram_map::RamMap;
 use record_format::{Record, encode};

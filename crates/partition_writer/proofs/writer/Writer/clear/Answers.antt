@@ -14,7 +14,7 @@ returns-in-Some-refusal-clause-halted g c = λ at. as_refused c.in-Some-refusal.
 
 pub returns-in-Some-refusal-clause-spent : goal.returns-in-Some-refusal-clause-spent
 returns-in-Some-refusal-clause-spent g c = λ next.
-    as_refused_and c.in-Some-refusal.refused (Spent next) (omega (arith, c.count.ensures)) 
+    as_refused_and c.in-Some-refusal.refused (Spent next) (omega (arith, c.count.ensures))
     (subst (λ (n : ℕ). (Some c.in-Some-refusal.refused ≡ Some (Spent next)) ↔ ((c.args.self.now.halted ≡ None) × (spent_by (standing c.args.self.now) Clears n ≡ Some next)))
     c.record_len-len.ensures (c.in-Some-refusal.ensures.spent next))
 

@@ -10,6 +10,6 @@ pub returns-in-Some-clause-halted : goal.returns-in-Some-clause-halted
 returns-in-Some-clause-halted g c = λ at. as_refused c.in-Some.refused (Halted at) (c.in-Some.ensures.halted at)
 
 pub returns-in-Some-clause-spent : goal.returns-in-Some-clause-spent
-returns-in-Some-clause-spent g c = λ next. as_refused c.in-Some.refused (Spent next) 
+returns-in-Some-clause-spent g c = λ next. as_refused c.in-Some.refused (Spent next)
     (subst (λ (n : ℕ). (Some c.in-Some.refused ≡ Some (Spent next)) ↔ ((c.args.self.now.halted ≡ None) × (spent_by (standing c.args.self.now) Value n ≡ Some next)))
     c.record_len-len.ensures (c.in-Some.ensures.spent next))

@@ -20,11 +20,11 @@ pub returns-in-Ok-clause-account : goal.returns-in-Ok-clause-account
 returns-in-Ok-clause-account g c = λ tells b a h is.
     let s = standing c.args.self.now in
     let bytes : c.as_slice.result.now ≡ spelling c.args.rec =
-        c.as_slice.ensures.value ∙ c.in_ok-encode.ensures.ok ∙ ap (λ (l : List ℕ). l ++ spelling c.args.rec) c.clear.ensures.items in
+    c.as_slice.ensures.value ∙ c.in_ok-encode.ensures.ok ∙ ap (λ (l : List ℕ). l ++ spelling c.args.rec) c.clear.ensures.items in
     let chunk = same_chosen (standing c.args.self.now) c.args.class (length c.as_slice.result.now) c.limit-limit.result c.next_name-next.result c.args.rec
-        c.requires.valid.same (ap (λ (l : List ℕ). length l) bytes) c.limit-limit.ensures c.next_name-next.ensures in
+    c.requires.valid.same (ap (λ (l : List ℕ). length l) bytes) c.limit-limit.ensures c.next_name-next.ensures in
     let named : c.chosen-chunk.result ≡ (placed_in (standing c.args.self.now) c.args.rec).chunk =
-        c.chosen-chunk.ensures ∙ ap (λ (n : ℕ). chosen (stock c.args.self.now.files) c.args.class n c.limit-limit.result c.next_name-next.result) (search rules) ∙ chunk in
+    c.chosen-chunk.ensures ∙ ap (λ (n : ℕ). chosen (stock c.args.self.now.files) c.args.class n c.limit-limit.result c.next_name-next.result) (search rules) ∙ chunk in
     stand_ok (standing c.args.self.now) _ b a c.args.rec h c.args.self.now.own c.requires.valid.valid c.requires.number
     (subst (λ (n : ChunkName). IsOpen (stock c.args.self.now.files) n) chunk (c.store-stored.ensures.open tells))
     (subst (λ (n : ChunkName). TakesIn (stock c.args.self.now.files) (stock c.store-stored.new.files) n) chunk c.store-stored.ensures.taking)
@@ -44,9 +44,9 @@ returns-in-Ok-clause-account g c = λ tells b a h is.
 pub returns-in-Err-Memory-clause-account : goal.returns-in-Err-Memory-clause-account
 returns-in-Err-Memory-clause-account g c = λ tells b a h is.
     let bytes : c.as_slice.result.now ≡ spelling c.args.rec =
-        c.as_slice.ensures.value ∙ c.in_ok-encode.ensures.ok ∙ ap (λ (l : List ℕ). l ++ spelling c.args.rec) c.clear.ensures.items in
+    c.as_slice.ensures.value ∙ c.in_ok-encode.ensures.ok ∙ ap (λ (l : List ℕ). l ++ spelling c.args.rec) c.clear.ensures.items in
     let chunk = same_chosen (standing c.args.self.now) c.args.class (length c.as_slice.result.now) c.limit-limit.result c.next_name-next.result c.args.rec
-        c.requires.valid.same (ap (λ (l : List ℕ). length l) bytes) c.limit-limit.ensures c.next_name-next.ensures in
+    c.requires.valid.same (ap (λ (l : List ℕ). length l) bytes) c.limit-limit.ensures c.next_name-next.ensures in
     stand_memory (standing c.args.self.now) _ b a c.args.rec h c.args.self.now.own c.requires.valid.valid c.requires.number
     (subst (λ (n : ChunkName). IsOpen (stock c.args.self.now.files) n) chunk (c.store-stored.ensures.open tells))
     (subst (λ (n : ChunkName). TakesIn (stock c.args.self.now.files) (stock c.store-stored.new.files) n) chunk c.store-stored.ensures.taking)
@@ -61,11 +61,11 @@ returns-in-Err-Memory-clause-account g c = λ tells b a h is.
 pub returns-in-Err-Fault-clause-account : goal.returns-in-Err-Fault-clause-account
 returns-in-Err-Fault-clause-account g c = λ tells b a h is.
     let bytes : c.as_slice.result.now ≡ spelling c.args.rec =
-        c.as_slice.ensures.value ∙ c.in_ok-encode.ensures.ok ∙ ap (λ (l : List ℕ). l ++ spelling c.args.rec) c.clear.ensures.items in
+    c.as_slice.ensures.value ∙ c.in_ok-encode.ensures.ok ∙ ap (λ (l : List ℕ). l ++ spelling c.args.rec) c.clear.ensures.items in
     let chunk = same_chosen (standing c.args.self.now) c.args.class (length c.as_slice.result.now) c.limit-limit.result c.next_name-next.result c.args.rec
-        c.requires.valid.same (ap (λ (l : List ℕ). length l) bytes) c.limit-limit.ensures c.next_name-next.ensures in
+    c.requires.valid.same (ap (λ (l : List ℕ). length l) bytes) c.limit-limit.ensures c.next_name-next.ensures in
     let named : c.chosen-chunk.result ≡ (placed_in (standing c.args.self.now) c.args.rec).chunk =
-        c.chosen-chunk.ensures ∙ ap (λ (n : ℕ). chosen (stock c.args.self.now.files) c.args.class n c.limit-limit.result c.next_name-next.result) (search rules) ∙ chunk in
+    c.chosen-chunk.ensures ∙ ap (λ (n : ℕ). chosen (stock c.args.self.now.files) c.args.class n c.limit-limit.result c.next_name-next.result) (search rules) ∙ chunk in
     stand_fault (standing c.args.self.now) _ b a c.args.rec h c.args.self.now.own c.requires.valid.valid c.requires.number
     (subst (λ (n : ChunkName). IsOpen (stock c.args.self.now.files) n) chunk (c.store-stored.ensures.open tells))
     (subst (λ (n : ChunkName). TakesIn (stock c.args.self.now.files) (stock c.store-stored.new.files) n) chunk c.store-stored.ensures.taking)
@@ -89,7 +89,7 @@ returns-in-Err-Fault-clause-account g c = λ tells b a h is.
 pub invariant_of-self-in-Ok : goal.invariant_of-self-in-Ok
 invariant_of-self-in-Ok g c =
     let bytes : c.as_slice.result.now ≡ spelling c.args.rec =
-        c.as_slice.ensures.value ∙ c.in_ok-encode.ensures.ok ∙ ap (λ (l : List ℕ). l ++ spelling c.args.rec) c.clear.ensures.items in
+    c.as_slice.ensures.value ∙ c.in_ok-encode.ensures.ok ∙ ap (λ (l : List ℕ). l ++ spelling c.args.rec) c.clear.ensures.items in
     let room = room_before (standing c.args.self.now) c.args.class (length c.as_slice.result.now) c.limit-limit.result c.args.rec (ap (λ (l : List ℕ). length l) bytes) c.limit-limit.ensures c.requires.unspent in
     let partition : c.next_name-next.result.partition ≡ c.args.self.now.partition = ap (λ (n : ChunkName). n.partition) c.next_name-next.ensures in
     let less = unspent_next (standing c.args.self.now) c.args.class (length (spelling c.args.rec)) c.requires.unspent in
@@ -111,7 +111,7 @@ invariant_of-self-in-Ok g c =
 pub invariant_of-self-in-Err-Memory : goal.invariant_of-self-in-Err-Memory
 invariant_of-self-in-Err-Memory g c =
     let bytes : c.as_slice.result.now ≡ spelling c.args.rec =
-        c.as_slice.ensures.value ∙ c.in_ok-encode.ensures.ok ∙ ap (λ (l : List ℕ). l ++ spelling c.args.rec) c.clear.ensures.items in
+    c.as_slice.ensures.value ∙ c.in_ok-encode.ensures.ok ∙ ap (λ (l : List ℕ). l ++ spelling c.args.rec) c.clear.ensures.items in
     let room = room_before (standing c.args.self.now) c.args.class (length c.as_slice.result.now) c.limit-limit.result c.args.rec (ap (λ (l : List ℕ). length l) bytes) c.limit-limit.ensures c.requires.unspent in
     let partition : c.next_name-next.result.partition ≡ c.args.self.now.partition = ap (λ (n : ChunkName). n.partition) c.next_name-next.ensures in
     let less = unspent_next (standing c.args.self.now) c.args.class (length (spelling c.args.rec)) c.requires.unspent in
@@ -133,7 +133,7 @@ invariant_of-self-in-Err-Memory g c =
 pub invariant_of-self-in-Err-Fault : goal.invariant_of-self-in-Err-Fault
 invariant_of-self-in-Err-Fault g c =
     let bytes : c.as_slice.result.now ≡ spelling c.args.rec =
-        c.as_slice.ensures.value ∙ c.in_ok-encode.ensures.ok ∙ ap (λ (l : List ℕ). l ++ spelling c.args.rec) c.clear.ensures.items in
+    c.as_slice.ensures.value ∙ c.in_ok-encode.ensures.ok ∙ ap (λ (l : List ℕ). l ++ spelling c.args.rec) c.clear.ensures.items in
     let room = room_before (standing c.args.self.now) c.args.class (length c.as_slice.result.now) c.limit-limit.result c.args.rec (ap (λ (l : List ℕ). length l) bytes) c.limit-limit.ensures c.requires.unspent in
     let partition : c.next_name-next.result.partition ≡ c.args.self.now.partition = ap (λ (n : ChunkName). n.partition) c.next_name-next.ensures in
     let less = unspent_next (standing c.args.self.now) c.args.class (length (spelling c.args.rec)) c.requires.unspent in
