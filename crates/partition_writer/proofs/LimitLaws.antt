@@ -1,15 +1,16 @@
 -- The lengths of keys and values in the maps, and the numbers that are left.
-use Rattle.std.specs.Prelude.{◌≡◌, ◌≢◌, ◌⊎◌, ◌↔◌, ℕ, nat_lt, Option, Result, Ok, Err, IsErrOf, is_none, is_some, ◌<◌, ◌≤◌, Bool, true, false, List, length, Some, None}
+use Rattle.std.specs.Prelude.{◌≡◌, ◌≢◌, ◌⊎◌, ◌↔◌, ℕ, nat_lt, Option, Result, Ok, Err, IsErrOf, is_none, is_some, ◌<◌, ◌≤◌, ◌==◌, cond, not, Bool, true, false, List, length, Some, None}
 use Rattle.std.proofs.Common.{sym, ◌∙◌, ap, subst, inl, inr, arith}
 use Rattle.std.proofs.lemmas.Bool.{cases_Bool}
 use Rattle.std.specs.FinMap as map
 use Rattle.std.specs.Option.{option_map}
 use Rattle.partition_writer.specs.declared.refusal.WriteRefusal.{WriteRefusal}
 use Rattle.hr_base.specs.declared.limits.TheConstants.{MAX_KEY_LEN, MAX_VALUE_LEN}
-use Rattle.hr_base.specs.Entries.{Key, Content, Entries, State, KeepsLimits, key_at, content_of}
-use Rattle.hr_base.specs.declared.limits.TheConstants.{CHUNK_NO_END, SEQ_END}
+use Rattle.hr_base.specs.Entries.{Key, Content, Entries, State, KeepsLimits, key_at, content_of, without_prefix}
+use Rattle.hr_base.specs.declared.limits.TheConstants.{CHUNK_NO_END, MAX_PARTITIONS, SEQ_END}
 use Rattle.hr_base.specs.declared.name.Class.{Class}
 use Rattle.hr_base.specs.declared.name.ChunkName.{ChunkName}
+use Rattle.hr_base.specs.Names.{IsChunkName}
 use Rattle.dir_files.specs.declared.folder.FolderRefusal.{FolderRefusal}
 use Rattle.dir_files.specs.declared.folder.FolderRefusal.TheVariants.{Memory, Fault}
 use Rattle.writer_chunks.specs.Lanes.{takes}
@@ -18,7 +19,8 @@ use Rattle.record_format.specs.declared.record.Record.{Record}
 use Rattle.record_format.specs.Spelling.{class_of_record, spelling}
 use Rattle.partition_writer.specs.Standing.{Standing, chosen, chunk_for, has_room, limit_of, next_name, placed_in, spent_by}
 use Rattle.partition_writer.specs.Storing.{number_after}
-use Rattle.hr_base.proofs.EntryLaws.{get-insert-same, get-insert-other, same_key_or_not}
+use Rattle.ram_map.proofs.EntryCounts.{get-without_prefix}
+use Rattle.hr_base.proofs.EntryLaws.{get-remove-same, get-remove-other, get-insert-same, get-insert-other, same_key_or_not}
 
 some_none : (c : Content) → None ≡ Some c → ⊥
 some_none c e = cc
@@ -46,11 +48,31 @@ module _ (m n : Entries) (prefix : ℕ) (key value : List ℕ) (h : KeepsLimits 
   }
 
 -- keys that go leave lengths as they are
-pub fewer_limits : (m n : Entries) → KeepsLimits m → ((k : Key) (c : Content) → map.get n k ≡ Some c → map.get m k ≡ Some c) → KeepsLimits n
+fewer_limits : (m n : Entries) → KeepsLimits m → ((k : Key) (c : Content) → map.get n k ≡ Some c → map.get m k ≡ Some c) → KeepsLimits n
 fewer_limits m n h fewer = record {
   keys = λ k c found. h.keys k c (fewer k c found);
   values = λ k c found. h.values k c (fewer k c found);
 }
+
+-- what a key has after another one went
+kept_removed : (m : Entries) (gone k : Key) (c : Content) → map.get (map.remove m gone) k ≡ Some c → map.get m k ≡ Some c
+kept_removed m gone k c found = elim (same_key_or_not k gone) [
+  | inl same ↦ absurd (some_none c (sym (get-remove-same m gone) ∙ ap (map.get (map.remove m gone)) (sym same) ∙ found))
+  | inr apart ↦ sym (get-remove-other m gone k apart) ∙ found
+]
+
+pub take_limits : (m n : Entries) (gone : Key) → KeepsLimits m → n ≡ map.remove m gone → KeepsLimits n
+take_limits m n gone h is = subst KeepsLimits (sym is) (fewer_limits m (map.remove m gone) h (kept_removed m gone))
+
+-- what a key has after a map went
+kept_cleared : (m : Entries) (prefix : ℕ) (k : Key) (c : Content) → map.get (without_prefix prefix m) k ≡ Some c → map.get m k ≡ Some c
+kept_cleared m prefix k c found = elim (cases_Bool (prefix == k.prefix)) [
+  | inl same ↦ absurd (some_none c (sym (get-without_prefix prefix m k ∙ ap (λ (t : Bool). cond (not t) (map.get m k) None) same) ∙ found))
+  | inr apart ↦ sym (get-without_prefix prefix m k ∙ ap (λ (t : Bool). cond (not t) (map.get m k) None) apart) ∙ found
+]
+
+pub clear_limits : (m n : Entries) (prefix : ℕ) → KeepsLimits m → n ≡ without_prefix prefix m → KeepsLimits n
+clear_limits m n prefix h is = subst KeepsLimits (sym is) (fewer_limits m (without_prefix prefix m) h (kept_cleared m prefix))
 
 -- ---- numbers
 
@@ -88,6 +110,12 @@ room_before s class len limit r bytes most none =
     subst (λ (m : ℕ). (s.next_chunk < CHUNK_NO_END) ⊎ (takes (lane_of s.stock class) len m ≡ true)) (sym most)
     (subst (λ (l : ℕ). (s.next_chunk < CHUNK_NO_END) ⊎ (takes (lane_of s.stock class) l (limit_of s.limits class) ≡ true)) (sym bytes)
     (unspent_chunk s class (length (spelling r)) none))
+
+-- the name of a chunk that may have to be begun
+pub valid_next : (s : Standing) (class : Class) (room : Bool) → s.partition.0 < MAX_PARTITIONS → 1 ≤ s.next_chunk → (s.next_chunk < CHUNK_NO_END) ⊎ (room ≡ true)
+    → room ≡ false → IsChunkName (next_name s class)
+valid_next s class room partition numbered (inl less) full = record { partition = partition; numbered = numbered; number = less }
+valid_next s class room partition numbered (inr some) full = cc
 
 pub ok_no_fault : (answer : Result (Unit {0}) FolderRefusal) → answer ≡ Ok tt → answer ≢ Err Fault
 ok_no_fault answer is fault = cc

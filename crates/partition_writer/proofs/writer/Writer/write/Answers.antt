@@ -2,6 +2,7 @@ use Rattle.std.proofs.Common.{sym, rules, arith, ap, ◌∙◌, ◌≡◌, ◌�
 use Rattle.hr_base.specs.declared.name.ChunkName.{ChunkName}
 use Rattle.dir_files.specs.declared.folder.FolderRefusal.{FolderRefusal}
 use Rattle.dir_files.specs.declared.folder.FolderRefusal.TheVariants.{Memory, Fault}
+use Rattle.hr_base.specs.Names.{IsChunkName}
 use Rattle.dir_files.specs.Files.{Files, SameAt}
 use Rattle.record_format.specs.Spelling.{spelling}
 use Rattle.crash_law.specs.Placed.{Placed}
@@ -12,7 +13,7 @@ use Rattle.partition_writer.specs.Storing.{NamesOwn, Adds, AddsEmpty, IsOpen, St
 use Rattle.partition_writer.specs.WriterViews.{standing}
 use Rattle.hr_base.specs.declared.limits.TheConstants.{CHUNK_NO_END}
 use Rattle.hr_base.specs.declared.name.Partition.{Partition}
-use Rattle.partition_writer.proofs.LimitLaws.{memory_no_fault, number_after-least, number_either, number_least, number_most, ok_no_fault, room_before, same_chosen, some_halted, unspent_next}
+use Rattle.partition_writer.proofs.LimitLaws.{memory_no_fault, number_after-least, number_either, number_least, number_most, ok_no_fault, room_before, same_chosen, some_halted, unspent_next, valid_next}
 use Rattle.partition_writer.proofs.StandLaws.{stand_fault, stand_memory, stand_ok}
 use Rattle.partition_writer.proofs.writer.Writer.write.Goals as goal
 
@@ -151,3 +152,15 @@ invariant_of-self-in-Err-Fault g c =
       unlost = λ running. absurd (some_halted _ running);
       lengths = c.args.self.now.lengths;
     }
+
+pub store-stored-requires-clause-valid : goal.store-stored-requires-clause-valid
+store-stored-requires-clause-valid g c = λ full.
+    let bytes : c.as_slice.result.now ≡ spelling c.args.rec =
+        c.as_slice.ensures.value ∙ c.in_ok-encode.ensures.ok ∙ ap (λ (l : List ℕ). l ++ spelling c.args.rec) c.clear.ensures.items in
+    let room = room_before (standing c.args.self.now) c.args.class (length c.as_slice.result.now) c.limit-limit.result c.args.rec (ap (λ (l : List ℕ). length l) bytes) c.limit-limit.ensures c.requires.unspent in
+    subst IsChunkName (sym c.next_name-next.ensures)
+    (valid_next (standing c.args.self.now) c.args.class _ c.args.self.now.partitioned c.args.self.now.chunk_numbered room full)
+
+pub store-stored-requires-clause-own : goal.store-stored-requires-clause-own
+store-stored-requires-clause-own g c =
+    subst (λ (p : Partition). NamesOwn p (stock c.args.self.now.files)) (sym (ap (λ (n : ChunkName). n.partition) c.next_name-next.ensures)) c.args.self.now.own
