@@ -82,6 +82,7 @@ impl<F: Folder> AnyFilling<F> {
         ensures sized { F.tells ≡ true → self.old.size ≡ length self.old.file.bytes }
         ensures port { LeavesPort ⟦<F as Folder>⟧ (is_fault result) port.old port.new }
     {
+        // The call of `size` tells the proof that the size is the file's length.
         match &mut self.taking {
             Taking::Values(filling) => {
                 prove!(filling.size() <= MAX_CHUNK_LIMIT);

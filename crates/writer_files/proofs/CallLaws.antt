@@ -1,5 +1,5 @@
 -- What the begin of a chunk and an append make of a stock and of its files.
-use Rattle.std.proofs.Common.{◌≡◌, ◌⊎◌, ℕ, Bool, true, false, List, [], ◌∷◌, ◌++◌, length, take, Option, Some, None, IfSome, Result, Ok, Err, All, refl, ap, sym, ◌∙◌, subst, inl, inr, arith}
+use Rattle.std.proofs.Common.{◌≡◌, ℕ, Bool, true, false, List, [], ◌++◌, length, take, Option, Some, None, IfSome, Result, Ok, Err, All, refl, ap, sym, ◌∙◌, subst, inl, inr}
 use Rattle.std.specs.Option.{option_to_list}
 use Rattle.std.proofs.lemmas.Bool.{false≢true}
 use Rattle.hr_base.specs.declared.limits.TheConstants.{MAX_CHUNK_LIMIT}
@@ -13,7 +13,7 @@ use Rattle.dir_files.specs.Files.{FileState, Files, ChangesAt, SameAt, new_file,
 use Rattle.dir_files.specs.Ports.{Port, SamePort, either_file}
 use Rattle.value_chunk.specs.Chunks.{Chunk, fits}
 use Rattle.value_chunk.specs.Calls.{BeginsAt}
-use Rattle.writer_chunks.specs.Lanes.{LaneState, chunks, file_among, seen, taking_fits}
+use Rattle.writer_chunks.specs.Lanes.{LaneState, file_among, seen, taking_fits}
 use Rattle.writer_chunks.specs.LaneCalls.{AppendsToFile, Begins, BeginsFile}
 use Rattle.writer_chunks.specs.PortFits.{FitsPort, LeavesOthers}
 use Rattle.writer_chunks.proofs.FileLaws.{IsOnce, last_changes, once_before}

@@ -1,5 +1,5 @@
 -- What is left at the port when every file was given back.
-use Rattle.std.proofs.Common.{◌≡◌, ◌≢◌, true, Option, refl, ap, sym, ◌∙◌, subst}
+use Rattle.std.proofs.Common.{◌≡◌, ◌≢◌, Option, refl, ap, sym, ◌∙◌, subst}
 use Rattle.hr_base.specs.declared.name.Class.{Class}
 use Rattle.hr_base.specs.declared.name.Class.TheVariants.{Value, Tomb, Clear}
 use Rattle.hr_base.specs.declared.name.ChunkName.{ChunkName}

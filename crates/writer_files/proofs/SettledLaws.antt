@@ -1,5 +1,5 @@
 -- What it makes of a stock and of its files, that names are durable.
-use Rattle.std.proofs.Common.{◌≡◌, ◌≢◌, Bool, true, false, cond, List, [], ◌∷◌, ◌++◌, length, Option, Some, None, is_some, option_map, IfSome, IsSomeAnd, Result, Ok, All, refl, ap, sym, ◌∙◌, subst, inl, inr, arith}
+use Rattle.std.proofs.Common.{◌≡◌, ◌≢◌, Bool, true, false, List, [], ◌∷◌, ◌++◌, length, Option, Some, None, is_some, option_map, IfSome, IsSomeAnd, Ok, All, refl, ap, sym, ◌∙◌, subst, inl, inr, arith}
 use Rattle.std.specs.Option.{option_to_list}
 use Rattle.std.proofs.lemmas.Bool.{cases_Bool, false≢true}
 use Rattle.std.proofs.lemmas.List.Elements.{All-head, All-tail, All-weaker}
@@ -9,14 +9,14 @@ use Rattle.hr_base.specs.declared.name.ChunkName.{ChunkName}
 use Rattle.hr_base.specs.Names.{class_of_kind}
 use Rattle.hr_base.specs.NameTests.{is_name}
 use Rattle.dir_files.specs.Files.{FileState, Files, IsFile, IsDurable, KeepsMore, Rises, named_file}
-use Rattle.dir_files.specs.Ports.{Port, IsPort, SamePort, SyncsNames, either_file}
+use Rattle.dir_files.specs.Ports.{Port, IsPort, SyncsNames, either_file}
 use Rattle.value_chunk.specs.Chunks.{Chunk}
 use Rattle.value_chunk.specs.Calls.{IsTold, marked}
 use Rattle.writer_chunks.specs.Lanes.{LaneState, chunks, file_among, seen}
 use Rattle.writer_chunks.specs.LaneCalls.{EachRises, IsSynced, SettlesLane, SettlesPort}
 use Rattle.writer_chunks.specs.PortFits.{FitsPort, LeavesOthers}
-use Rattle.writer_chunks.proofs.FileLaws.{keeps_same, rises_same, rises_beside, zip_all, file_among-here, file_among-past}
-use Rattle.writer_chunks.proofs.FitLaws.{all_fixed, fits_others, fits_same, fits_synced_names, fixed_others}
+use Rattle.writer_chunks.proofs.FileLaws.{rises_same, rises_beside, zip_all, file_among-here, file_among-past}
+use Rattle.writer_chunks.proofs.FitLaws.{all_fixed, fits_others, fits_synced_names, fixed_others}
 use Rattle.writer_chunks.proofs.LaneSyncLaws.{all_back}
 use Rattle.writer_files.specs.Stocks.{Stock, AllDurable, EachSynced, HasClasses, IsStock, lane_of, files_of}
 use Rattle.writer_files.proofs.ClassLaws.{classes_of, each_class}

@@ -1,9 +1,8 @@
 -- What a sync of bytes makes of a stock and of its files.
-use Rattle.std.proofs.Common.{◌≡◌, Bool, true, false, List, [], ◌∷◌, All, Option, Some, None, Result, Ok, Err, OnOk, refl, ap, sym, ◌∙◌, subst}
+use Rattle.std.proofs.Common.{◌≡◌, Bool, true, List, [], ◌∷◌, All, Option, Some, None, Result, Ok, Err, OnOk, refl, ap, sym, ◌∙◌, subst}
 use Rattle.std.proofs.Props.{props}
 use Rattle.std.specs.List.{AllZip}
 use Rattle.hr_base.specs.declared.name.Class.{Class}
-use Rattle.hr_base.specs.declared.name.ChunkName.{ChunkName}
 use Rattle.hr_base.specs.Names.{class_of_kind}
 use Rattle.hr_base.specs.declared.name.Named.{Ghosts as NamedGhosts}
 use Rattle.dir_files.specs.declared.folder.Folder.{Ghosts as FolderGhosts}

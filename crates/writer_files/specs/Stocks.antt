@@ -1,5 +1,5 @@
 -- A stock: the chunks that a writer has in hand, a lane of each class, and the port that they go through.
-use Rattle.std.specs.Prelude.{◌≡◌, ℕ, Bool, true, false, List, [], All, Option, Some, None, option_map, IfSome, length}
+use Rattle.std.specs.Prelude.{◌≡◌, Bool, true, false, [], All, Option, Some, None, IfSome, length}
 use Rattle.hr_base.specs.declared.name.Class.{Class}
 use Rattle.hr_base.specs.declared.name.Class.TheVariants.{Value, Tomb, Clear}
 use Rattle.hr_base.specs.declared.name.ChunkName.{ChunkName}

@@ -23,16 +23,6 @@ pub struct WriterFiles<F: Folder> {
     ghost stocked: { F.tells ≡ true → IsStock (record { port = F.port port; values = values; tombs = tombs; clears = clears; fresh = fresh }) },
 }
 
-/// Whether a file may have been created since the last directory sync, after one was to be.
-fn is_fresh_after(fresh: bool, begun: Result<(), FolderRefusal>) -> bool
-    ensures { result ≡ fresh_after fresh begun }
-{
-    match begun {
-        Ok(()) | Err(FolderRefusal::Fault) => true,
-        Err(FolderRefusal::Memory) => fresh,
-    }
-}
-
 impl<F: Folder> WriterFiles<F> {
     ghost use Rattle.std.specs.Prelude.{false, None, All, IfSome, IsOk, OnOk, length, option_map};
     ghost use Rattle.hr_base.specs.declared.limits.TheConstants.{MAX_CHUNK_LIMIT};
@@ -158,7 +148,7 @@ impl<F: Folder> WriterFiles<F> {
         }
     }
 
-    /// Makes the bytes of each file in hand durable.
+    /// Makes the bytes of each file in hand durable, of one after another until the folder refuses one.
     fn sync_bytes(&mut self) -> Result<(), FolderRefusal>
         ensures synced { OnOk result (EachSynced F.tells (stock self.new)) }
         ensures fresh { (stock self.new).fresh ≡ (stock self.old).fresh }
@@ -172,7 +162,7 @@ impl<F: Folder> WriterFiles<F> {
         self.clears.sync(&mut self.port)
     }
 
-    /// Makes the names durable, and gives the files of full chunks back.
+    /// Makes the names durable where all bytes are, and gives the files of full chunks back.
     fn sync_names(&mut self) -> Result<(), FolderRefusal>
         requires synced { EachSynced F.tells (stock self.old) }
         requires fresh { (stock self.old).fresh ≡ true }
@@ -207,5 +197,15 @@ impl<F: Folder> WriterFiles<F> {
         tombs.give(&mut port);
         clears.give(&mut port);
         port
+    }
+}
+
+/// Whether a file may have been created since the last directory sync, after one was to be.
+fn is_fresh_after(fresh: bool, begun: Result<(), FolderRefusal>) -> bool
+    ensures { result ≡ fresh_after fresh begun }
+{
+    match begun {
+        Ok(()) | Err(FolderRefusal::Fault) => true,
+        Err(FolderRefusal::Memory) => fresh,
     }
 }

@@ -193,12 +193,20 @@ struct Row {
     second: Option<usize>,
 }
 
-/// So many bytes of a record.
-fn front(bytes: &[u8], len: Option<usize>) -> Option<&[u8]> {
-    match len {
+/// Checks that the file holds so many bytes of a record, or is not there.
+fn expect_file(
+    rt: &impl Abort,
+    port: &MemFolder,
+    name: ChunkName,
+    bytes: &[u8],
+    len: Option<usize>,
+    run: &str,
+) {
+    let wanted = match len {
         Some(len) if len <= bytes.len() => Some(&bytes[..len]),
         _ => None,
-    }
+    };
+    assert_eq!(rt; port.bytes(name), wanted, "{run}");
 }
 
 /// Writes and syncs, and checks what is left.
@@ -209,30 +217,10 @@ fn expect(rt: &impl Abort, alloc: Global, row: &Row) -> Result<(), Fail> {
     assert_eq!(rt; synced, !is_refused, "{}", row.name);
     assert_eq!(rt; files.faults(), u64::from(is_refused), "{}", row.name);
     let port = files.close();
-    assert_eq!(rt;
-        port.bytes(chunk(Kind::V, 7)),
-        front(FIRST, row.first),
-        "{}",
-        row.name
-    );
-    assert_eq!(rt;
-        port.bytes(chunk(Kind::T, 7)),
-        front(TOMB, row.tomb),
-        "{}",
-        row.name
-    );
-    assert_eq!(rt;
-        port.bytes(chunk(Kind::X, 7)),
-        front(CLEAR, row.clear),
-        "{}",
-        row.name
-    );
-    assert_eq!(rt;
-        port.bytes(chunk(Kind::V, 8)),
-        front(SECOND, row.second),
-        "{}",
-        row.name
-    );
+    expect_file(rt, &port, chunk(Kind::V, 7), FIRST, row.first, row.name);
+    expect_file(rt, &port, chunk(Kind::T, 7), TOMB, row.tomb, row.name);
+    expect_file(rt, &port, chunk(Kind::X, 7), CLEAR, row.clear, row.name);
+    expect_file(rt, &port, chunk(Kind::V, 8), SECOND, row.second, row.name);
     Ok(())
 }
 

@@ -1,11 +1,9 @@
-use Rattle.std.proofs.Common.{Ok, ◌∙◌, refl, sym}
+use Rattle.std.proofs.Common.{Ok, ◌∙◌, refl}
 use Rattle.std.proofs.lemmas.Bool.{false≢true}
 use Rattle.hr_base.specs.declared.name.Class.TheVariants.{Value, Tomb, Clear}
-use Rattle.dir_files.specs.Faults.{is_fault}
 use Rattle.writer_chunks.proofs.LaneSyncLaws.{syncs_kept}
-use Rattle.writer_files.specs.Stocks.{IsStock, lane_of}
 use Rattle.writer_files.specs.StockViews.{stock}
-use Rattle.writer_files.proofs.ClassLaws.{each_class, with_lane, with_lane_others}
+use Rattle.writer_files.proofs.ClassLaws.{with_lane, with_lane_others}
 use Rattle.writer_files.proofs.StepLaws.{IsWhole, each_synced, same_files, synced_whole}
 use Rattle.writer_files.proofs.files.WriterFiles.sync_bytes.Goals as goal
 
