@@ -132,7 +132,7 @@ module _ (tells : Bool) (answer : Result ℕ FolderRefusal) (old new : Stock) (c
   appended_taking other taking =
       let name : appended.after.name ≡ appended.before.name = appended_name tells answer appended.before appended.after bytes appended.appends in
       let here : is_chunk_of (lane_of old class).taking other ≡ is_chunk_of (lane_of new class).taking other =
-          ap (λ (o : Option Chunk). is_chunk_of o other) appended.was ∙ ap (λ (n : ChunkName). is_name n other) (sym name) ∙ ap (λ (o : Option Chunk). is_chunk_of o other) (sym appended.is) in
+      ap (λ (o : Option Chunk). is_chunk_of o other) appended.was ∙ ap (λ (n : ChunkName). is_name n other) (sym name) ∙ ap (λ (o : Option Chunk). is_chunk_of o other) (sym appended.is) in
       elim (same_class_or_not (class_of_kind other.kind) class) [
         | inl same ↦ subst (λ (c : Class). is_chunk_of (lane_of old c).taking other ≡ is_chunk_of (lane_of new c).taking other) (sym same) here ∙ taking
         | inr apart ↦ ap (λ (lane : LaneState). is_chunk_of lane.taking other) (sym (appends.others (class_of_kind other.kind) apart)) ∙ taking

@@ -38,9 +38,9 @@ pub returns-clause-files : goal.returns-clause-files
 returns-clause-files g c = λ tells.
     let name = chosen (stock c.args.files.now) c.args.class (length c.args.bytes.now) c.args.limit c.args.next in
     let extends = appended_files g.F.Folder.tells c.append.result (stock c.make_room.new.files) (stock c.append.new.self) c.args.class c.args.bytes.now (length c.args.bytes.now) MAX_CHUNK_LIMIT
-        (search rules) c.append.ensures.appended
-        (λ (n : ChunkName). ExtendsFile c.append.result (files_of (stock c.make_room.new.files)) (files_of (stock c.append.new.self)) n c.args.bytes.now)
-        (c.append.ensures.files tells) name (search rules) in
+    (search rules) c.append.ensures.appended
+    (λ (n : ChunkName). ExtendsFile c.append.result (files_of (stock c.make_room.new.files)) (files_of (stock c.append.new.self)) n c.args.bytes.now)
+    (c.append.ensures.files tells) name (search rules) in
     subst (λ (answer : Result (Unit {0}) FolderRefusal). StoresIn answer (files_of (stock c.args.files.now)) (files_of (stock c.append.new.self)) name c.args.bytes.now) (sym c.without_offset.ensures)
     (stores_after (files_of (stock c.args.files.now)) (files_of (stock c.make_room.new.files)) (files_of (stock c.append.new.self)) name c.args.bytes.now c.append.result
     (c.in_ok-make_room.ensures.files tells) extends)
@@ -49,8 +49,8 @@ pub returns-clause-below : goal.returns-clause-below
 returns-clause-below g c = λ tells whole numbered below.
     let name = chosen (stock c.args.files.now) c.args.class (length c.args.bytes.now) c.args.limit c.args.next in
     let extends = appended_files g.F.Folder.tells c.append.result (stock c.make_room.new.files) (stock c.append.new.self) c.args.class c.args.bytes.now (length c.args.bytes.now) MAX_CHUNK_LIMIT
-        (search rules) c.append.ensures.appended
-        (λ (n : ChunkName). ExtendsFile c.append.result (files_of (stock c.make_room.new.files)) (files_of (stock c.append.new.self)) n c.args.bytes.now)
-        (c.append.ensures.files tells) name (search rules) in
+    (search rules) c.append.ensures.appended
+    (λ (n : ChunkName). ExtendsFile c.append.result (files_of (stock c.make_room.new.files)) (files_of (stock c.append.new.self)) n c.args.bytes.now)
+    (c.append.ensures.files tells) name (search rules) in
     below_after (files_of (stock c.make_room.new.files)) (files_of (stock c.append.new.self)) name c.args.bytes.now c.append.result c.make_room.new.next_chunk
     (c.make_room.ensures.below tells (ok_no_fault _ (search rules)) numbered below) extends

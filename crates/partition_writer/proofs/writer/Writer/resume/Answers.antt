@@ -12,7 +12,7 @@ use Rattle.partition_writer.proofs.writer.Writer.resume.Goals as goal
 pub invariant_of-result : goal.invariant_of-result
 invariant_of-result g c =
     let none = λ (class : Class) (chunk : Chunk) (is : (lane_of (stock c.new.result) class).taking ≡ Some chunk).
-        some_not_none (lane_of (stock c.new.result) class).taking chunk (ap (λ (lane : LaneState). lane.taking) (c.new.ensures.lanes class)) is in
+    some_not_none (lane_of (stock c.new.result) class).taking chunk (ap (λ (lane : LaneState). lane.taking) (c.new.ensures.lanes class)) is in
     record {
       partitioned = c.requires.partition;
       value_limit = c.requires.limits.value;

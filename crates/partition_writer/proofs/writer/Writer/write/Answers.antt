@@ -156,7 +156,7 @@ invariant_of-self-in-Err-Fault g c =
 pub store-stored-requires-clause-valid : goal.store-stored-requires-clause-valid
 store-stored-requires-clause-valid g c = λ full.
     let bytes : c.as_slice.result.now ≡ spelling c.args.rec =
-        c.as_slice.ensures.value ∙ c.in_ok-encode.ensures.ok ∙ ap (λ (l : List ℕ). l ++ spelling c.args.rec) c.clear.ensures.items in
+    c.as_slice.ensures.value ∙ c.in_ok-encode.ensures.ok ∙ ap (λ (l : List ℕ). l ++ spelling c.args.rec) c.clear.ensures.items in
     let room = room_before (standing c.args.self.now) c.args.class (length c.as_slice.result.now) c.limit-limit.result c.args.rec (ap (λ (l : List ℕ). length l) bytes) c.limit-limit.ensures c.requires.unspent in
     subst IsChunkName (sym c.next_name-next.ensures)
     (valid_next (standing c.args.self.now) c.args.class _ c.args.self.now.partitioned c.args.self.now.chunk_numbered room full)
