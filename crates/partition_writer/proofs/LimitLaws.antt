@@ -20,7 +20,7 @@ use Rattle.record_format.specs.Spelling.{class_of_record, spelling}
 use Rattle.partition_writer.specs.Standing.{Standing, chosen, chunk_for, has_room, limit_of, next_name, placed_in, spent_by}
 use Rattle.partition_writer.specs.Storing.{number_after}
 use Rattle.ram_map.proofs.EntryCounts.{get-without_prefix}
-use Rattle.hr_base.proofs.EntryLaws.{get-remove-same, get-remove-other, get-insert-same, get-insert-other, same_key_or_not}
+use Rattle.hr_base.proofs.EntryLaws.{get-empty-entries, get-remove-same, get-remove-other, get-insert-same, get-insert-other, same_key_or_not}
 
 some_none : (c : Content) → None ≡ Some c → ⊥
 some_none c e = cc
@@ -46,6 +46,13 @@ module _ (m n : Entries) (prefix : ℕ) (key value : List ℕ) (h : KeepsLimits 
       | inr apart ↦ h.values k c (elsewhere k c apart found)
     ];
   }
+
+-- maps without a key
+pub empty_limits : KeepsLimits map.empty
+empty_limits = record {
+  keys = λ k c h. absurd (some_none c (sym (get-empty-entries k) ∙ h));
+  values = λ k c h. absurd (some_none c (sym (get-empty-entries k) ∙ h));
+}
 
 -- keys that go leave lengths as they are
 fewer_limits : (m n : Entries) → KeepsLimits m → ((k : Key) (c : Content) → map.get n k ≡ Some c → map.get m k ≡ Some c) → KeepsLimits n
