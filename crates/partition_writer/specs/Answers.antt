@@ -77,8 +77,17 @@ WritesRecord (Err (Spent next)) s t r = t ≡ s
 -- the writer with other maps
 abbrev pub with_maps : Standing → Entries → Standing
 with_maps s maps = record {
-  partition = s.partition; limits = s.limits; stock = s.stock; faults = s.faults; sound = s.sound; halted = s.halted;
-  lost = s.lost; maps = maps; records = s.records; next = s.next; next_chunk = s.next_chunk;
+  partition = s.partition;
+  limits = s.limits;
+  stock = s.stock;
+  faults = s.faults;
+  sound = s.sound;
+  halted = s.halted;
+  lost = s.lost;
+  maps = maps;
+  records = s.records;
+  next = s.next;
+  next_chunk = s.next_chunk;
 }
 
 -- what the writer stands for after a command

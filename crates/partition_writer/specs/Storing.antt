@@ -65,6 +65,11 @@ MakesRoom (Ok done) old new name = SameAt old new ⊎ AddsEmpty old new name
 MakesRoom (Err Fault) old new name = (old name ≡ None) × (SameAt old new ⊎ AddsEmpty old new name)
 MakesRoom (Err Memory) old new name = SameAt old new
 
+-- the answer of an append, without where the record begins
+abbrev pub without_offset : Result ℕ FolderRefusal → Result (Unit {0}) FolderRefusal
+without_offset (Ok offset) = Ok tt
+without_offset (Err refusal) = Err refusal
+
 -- A record was to be stored in the file of this name: where the disk refused it, some prefix of it stands there, or
 -- there is no file yet, or an empty one.
 abbrev pub StoresIn : Result (Unit {0}) FolderRefusal → Files → Files → ChunkName → List ℕ → Type 0

@@ -8,3 +8,6 @@ mod writer;
 
 pub use refusal::WriteRefusal;
 pub use writer::Writer;
+
+#[cfg(test)]
+mod tests;

@@ -11,7 +11,7 @@ ghost use Rattle.writer_files.specs.Stocks.{lane_of, files_of};
 ghost use Rattle.writer_files.specs.StockCalls.{KeepsOthers};
 ghost use Rattle.writer_files.specs.StockViews.{port_of, stock};
 ghost use Rattle.partition_writer.specs.Standing.{chosen, writer_kind};
-ghost use Rattle.partition_writer.specs.Storing.{Fills, IsBelow, IsOpen, IsReady, MakesRoom, NamesOwn, StoresIn, TakesIn, number_after, size_of};
+ghost use Rattle.partition_writer.specs.Storing.{Fills, IsBelow, IsOpen, IsReady, MakesRoom, NamesOwn, StoresIn, TakesIn, number_after, size_of, without_offset};
 
 use dir_files::{Folder, FolderRefusal};
 use hr_base::{ChunkName, Class, Kind, MAX_CHUNK_LIMIT};
@@ -57,7 +57,7 @@ fn make_room<F: Folder>(
     len: u64,
     limit: u64,
 ) -> Result<(), FolderRefusal>
-    requires valid { IsChunkName next }
+    requires valid { takes (lane_of (stock files.old) class) len limit ≡ false → IsChunkName next }
     requires kind { next.kind ≡ writer_kind class }
     requires numbered { next_chunk.old < CHUNK_NO_END ⊎ (takes (lane_of (stock files.old) class) len limit ≡ true) }
     requires limited { limit ≤ MAX_CHUNK_LIMIT }
@@ -82,6 +82,8 @@ fn make_room<F: Folder>(
     ensures taking { TakesIn (stock files.old) (stock files.new) (chosen (stock files.old) class len limit next) }
     ensures ready { IsReady (stock files.new) }
     ensures own { NamesOwn next.partition (stock files.new) }
+    ensures below { F.tells ≡ true → (result ≢ Err FolderRefusal.Fault) → (next.number.0 ≡ next_chunk.old)
+        → IsBelow (files_of (stock files.old)) next_chunk.old → IsBelow (files_of (stock files.new)) next_chunk.new }
     ensures counts { Counts ⟦<F as Folder>⟧ (is_fault result) (port_of files.old) (port_of files.new) }
 {
     if !files.takes(class, len, limit) {
@@ -89,6 +91,16 @@ fn make_room<F: Folder>(
         *next_chunk += 1;
     }
     Ok(())
+}
+
+/// The answer of an append, without where the record begins.
+fn without_offset(appended: Result<u64, FolderRefusal>) -> Result<(), FolderRefusal>
+    ensures { result ≡ without_offset appended }
+{
+    match appended {
+        Ok(_offset) => Ok(()),
+        Err(refusal) => Err(refusal),
+    }
 }
 
 /// Stores one spelled record in the chunk of its class that takes records, or in the next one where that has no room.
@@ -100,7 +112,7 @@ pub(crate) fn store<F: Folder>(
     limit: u64,
     bytes: &[u8],
 ) -> Result<(), FolderRefusal>
-    requires valid { IsChunkName next }
+    requires valid { takes (lane_of (stock files.old) class) (length bytes.now) limit ≡ false → IsChunkName next }
     requires kind { next.kind ≡ writer_kind class }
     requires spelled { IsOneRecord class bytes.now }
     requires numbered { next_chunk.old < CHUNK_NO_END ⊎ (takes (lane_of (stock files.old) class) (length bytes.now) limit ≡ true) }
@@ -126,6 +138,5 @@ pub(crate) fn store<F: Folder>(
     ensures counts { Counts ⟦<F as Folder>⟧ (is_fault result) (port_of files.old) (port_of files.new) }
 {
     make_room(files, next_chunk, next, class, bytes.len() as u64, limit)?;
-    files.append(class, bytes)?;
-    Ok(())
+    without_offset(files.append(class, bytes))
 }

@@ -18,7 +18,8 @@ use crate::storing::{chosen, kind_for, store};
 use bytes::Bytes;
 use dir_files::{Folder, FolderRefusal};
 use hr_base::{
-    CHUNK_NO_END, ChunkName, ChunkNo, Class, Limits, MAX_KEY_LEN, MAX_VALUE_LEN, Partition, SEQ_END, Seq,
+    CHUNK_NO_END, ChunkName, ChunkNo, Class, Limits, MAX_KEY_LEN, MAX_VALUE_LEN, Partition,
+    SEQ_END, Seq,
 };
 use ram_map::RamMap;
 use record_format::{Record, encode};
@@ -250,7 +251,10 @@ impl<F: Folder> Writer<F> {
         ensures whole { F.tells ≡ true → (b : Beginning) (a : Account) → Stands (standing self.old) b a
             → OnOk result (HoldsTail (standing self.new) b.found) }
     {
-        self.check(Class::Value, record_len(Class::Value, key.len(), value.len()))?;
+        let len = record_len(Class::Value, key.len(), value.len());
+        if let Some(refused) = self.refusal(Class::Value, len) {
+            return Err(refused);
+        }
         let own = self.map.reserve(prefix, key)?;
         let shared = Bytes::copy_from_slice(self.alloc, value)?;
         let rec = value_record(self.alloc, self.next, prefix, key, &shared)?;
@@ -294,7 +298,10 @@ impl<F: Folder> Writer<F> {
         if self.map.get(prefix, key).is_none() {
             return Ok(None);
         }
-        self.check(Class::Tomb, record_len(Class::Tomb, key.len(), 0))?;
+        let len = record_len(Class::Tomb, key.len(), 0);
+        if let Some(refused) = self.refusal(Class::Tomb, len) {
+            return Err(refused);
+        }
         let rec = tomb_record(self.alloc, self.next, prefix, key)?;
         self.write(Class::Tomb, rec)?;
         Ok(self.map.take(prefix, key))
@@ -333,7 +340,10 @@ impl<F: Folder> Writer<F> {
         if self.map.count(prefix) == 0 {
             return Ok(0);
         }
-        self.check(Class::Clear, record_len(Class::Clear, 0, 0))?;
+        let len = record_len(Class::Clear, 0, 0);
+        if let Some(refused) = self.refusal(Class::Clear, len) {
+            return Err(refused);
+        }
         let seq = Seq(self.next);
         self.write(Class::Clear, Record::Clear { prefix, seq })?;
         Ok(self.map.clear(prefix))
@@ -360,26 +370,26 @@ impl<F: Folder> Writer<F> {
         }
     }
 
-    /// Whether a record of so many bytes may be written: the disk refused no call, and no number is spent.
-    fn check(&self, class: Class, len: u64) -> Result<(), WriteRefusal>
-        ensures ok { OnOk result ((self.now.halted ≡ None) × (spent_by (standing self.now) class len ≡ None)) }
-        ensures halted { (at : ℕ) → IsErrOf result (WriteRefusal.Halted at) ↔ (self.now.halted ≡ Some at) }
-        ensures spent { (next : ℕ) → IsErrOf result (WriteRefusal.Spent next)
+    /// Why no record of so many bytes may be written, if so: the disk refused a call, or a number is spent.
+    fn refusal(&self, class: Class, len: u64) -> Option<WriteRefusal>
+        ensures none { (result ≡ None) → (self.now.halted ≡ None) × (spent_by (standing self.now) class len ≡ None) }
+        ensures halted { (at : ℕ) → (result ≡ Some (WriteRefusal.Halted at)) ↔ (self.now.halted ≡ Some at) }
+        ensures spent { (next : ℕ) → (result ≡ Some (WriteRefusal.Spent next))
             ↔ ((self.now.halted ≡ None) × (spent_by (standing self.now) class len ≡ Some next)) }
-        ensures only { IfErr result (λ e. (e ≢ WriteRefusal.Memory) × (e ≢ WriteRefusal.DiskFault)) }
+        ensures only { (result ≢ Some WriteRefusal.Memory) × (result ≢ Some WriteRefusal.DiskFault) }
     {
         if let Some(at) = self.halted {
-            return Err(WriteRefusal::Halted { at });
+            return Some(WriteRefusal::Halted { at });
         }
         if self.next >= SEQ_END {
-            return Err(WriteRefusal::Spent { next: self.next });
+            return Some(WriteRefusal::Spent { next: self.next });
         }
         if !self.files.takes(class, len, self.limit(class)) && self.next_chunk >= CHUNK_NO_END {
-            return Err(WriteRefusal::Spent {
+            return Some(WriteRefusal::Spent {
                 next: self.next_chunk,
             });
         }
-        Ok(())
+        None
     }
 
     /// Stores a record in its chunk, and counts it among those that are not synced. The maps stay.

@@ -11,7 +11,7 @@ ghost use Rattle.value_chunk.specs.Calls.{begun, Appends, BeginsAt, IsTold, Mark
 
 use crate::any_full::AnyFull;
 use dir_files::{Folder, FolderRefusal};
-use hr_base::{ChunkName, Class, class_of};
+use hr_base::{ChunkName, Class, MAX_CHUNK_LIMIT, class_of};
 use std::marker::Model;
 use tomb_chunk::TombFilling;
 use value_chunk::Filling;
@@ -79,11 +79,19 @@ impl<F: Folder> AnyFilling<F> {
         requires room { fits self.old.size (length bytes.now) MAX_CHUNK_LIMIT ≡ true }
         requires whole { self.old.torn ≡ false }
         ensures appended { Appends F.tells result self.old self.new bytes.now }
+        ensures sized { F.tells ≡ true → self.old.size ≡ length self.old.file.bytes }
         ensures port { LeavesPort ⟦<F as Folder>⟧ (is_fault result) port.old port.new }
     {
+        // The call of `size` tells the proof that the size is the file's length.
         match &mut self.taking {
-            Taking::Values(filling) => filling.append(port, bytes),
-            Taking::Tombs(filling) => filling.append(port, bytes),
+            Taking::Values(filling) => {
+                prove!(filling.size() <= MAX_CHUNK_LIMIT);
+                filling.append(port, bytes)
+            }
+            Taking::Tombs(filling) => {
+                prove!(filling.size() <= MAX_CHUNK_LIMIT);
+                filling.append(port, bytes)
+            }
         }
     }
 

@@ -103,6 +103,7 @@ impl<F: Folder> Lane<F> {
         requires whole { IfSome self.old.taking (λ chunk. chunk.torn ≡ false) }
         requires fits { F.tells ≡ true → FitsPort (F.port port.old) self.old }
         ensures appended { AppendsIn F.tells result self.old self.new bytes.now }
+        ensures sized { F.tells ≡ true → IfSome self.old.taking (λ chunk. chunk.size ≡ length chunk.file.bytes) }
         ensures files { F.tells ≡ true → IfSome self.old.taking (λ chunk.
             AppendsToFile result (seen (F.port port.old) self.old) (seen (F.port port.new) self.new) chunk bytes.now) }
         ensures fits { F.tells ≡ true → FitsPort (F.port port.new) self.new }

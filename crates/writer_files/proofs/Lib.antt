@@ -1,0 +1,5 @@
+pub mod ClassLaws
+pub mod CallLaws
+pub mod StepLaws
+pub mod SettledLaws
+pub mod GivenLaws

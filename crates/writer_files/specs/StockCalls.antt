@@ -1,6 +1,6 @@
 -- What the calls make of a stock and of its files, by their answers. Clauses on files hold where the folder tells its
 -- content.
-use Rattle.std.specs.Prelude.{◌≡◌, ◌≢◌, ℕ, ◌+◌, Bool, true, false, List, length, take, Option, Some, None, option_to_list, Result, Ok, Err}
+use Rattle.std.specs.Prelude.{◌≡◌, ◌≢◌, ℕ, Bool, true, List, length, take, Some, option_to_list, Result, Ok, Err}
 use Rattle.std.specs.List.{AllZip}
 use Rattle.hr_base.specs.declared.name.Class.{Class}
 use Rattle.hr_base.specs.declared.limits.TheConstants.{MAX_CHUNK_LIMIT}
@@ -10,9 +10,8 @@ use Rattle.dir_files.specs.declared.folder.FolderRefusal.{FolderRefusal}
 use Rattle.dir_files.specs.declared.folder.FolderRefusal.TheVariants.{Memory, Fault}
 use Rattle.dir_files.specs.Files.{FileState, Files, ChangesAt, SameAt, with_bytes}
 use Rattle.value_chunk.specs.Chunks.{Chunk, fits}
-use Rattle.writer_chunks.specs.Lanes.{LaneState}
 use Rattle.writer_chunks.specs.LaneCalls.{AppendsIn, Begins}
-use Rattle.writer_files.specs.Stocks.{Stock, lane_of, files_of}
+use Rattle.writer_files.specs.Stocks.{Stock, lane_of}
 
 -- the lanes of other classes stay
 abbrev pub KeepsOthers : Class → Stock → Stock → Type 0

@@ -3,8 +3,6 @@ use Rattle.dir_files.specs.declared.folder.Folder.{Ghosts as FolderGhosts}
 use Rattle.hr_base.specs.declared.name.Named.{Ghosts as NamedGhosts}
 use Rattle.writer_files.specs.declared.files.WriterFiles.{WriterFiles}
 use Rattle.writer_files.specs.Stocks.{Stock}
-use Rattle.writer_chunks.specs.Lanes.{empty_lane}
-use Rattle.hr_base.specs.declared.name.Class.TheVariants.{Value, Tomb, Clear}
 
 module _ {F File : Type 0} {g : FolderGhosts F File} {h : NamedGhosts File} where
   -- the port as it is
@@ -14,8 +12,8 @@ module _ {F File : Type 0} {g : FolderGhosts F File} {h : NamedGhosts File} wher
   abbrev pub stock : WriterFiles F File g h → Stock
   stock files = record {
     port = g.port files.port;
-    values = empty_lane Value;
-    tombs = empty_lane Tomb;
-    clears = empty_lane Clear;
+    values = files.values;
+    tombs = files.tombs;
+    clears = files.clears;
     fresh = files.fresh;
   }

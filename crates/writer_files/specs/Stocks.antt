@@ -1,5 +1,5 @@
 -- A stock: the chunks that a writer has in hand, a lane of each class, and the port that they go through.
-use Rattle.std.specs.Prelude.{◌≡◌, ℕ, Bool, true, false, List, [], All, Option, Some, None, option_map, IfSome, length}
+use Rattle.std.specs.Prelude.{◌≡◌, Bool, true, false, [], All, Option, Some, None, IfSome, length}
 use Rattle.hr_base.specs.declared.name.Class.{Class}
 use Rattle.hr_base.specs.declared.name.Class.TheVariants.{Value, Tomb, Clear}
 use Rattle.hr_base.specs.declared.name.ChunkName.{ChunkName}
@@ -9,6 +9,7 @@ use Rattle.dir_files.specs.Files.{FileState, Files, IsDurable}
 use Rattle.dir_files.specs.Ports.{Port}
 use Rattle.value_chunk.specs.Chunks.{Chunk}
 use Rattle.writer_chunks.specs.Lanes.{LaneState, chunks, seen}
+use Rattle.writer_chunks.specs.LaneCalls.{IsSynced}
 use Rattle.writer_chunks.specs.PortFits.{FitsPort}
 
 pub record Stock : Type 0 where
@@ -57,6 +58,14 @@ taking_of stock name = is_chunk_of (lane_of stock (class_of_kind name.kind)).tak
 -- no chunk that takes records is torn
 abbrev pub IsReady : Stock → Type 0
 IsReady stock = (class : Class) → IfSome (lane_of stock class).taking (λ chunk. chunk.torn ≡ false)
+
+-- no chunk in hand has unsynced bytes
+abbrev pub HasSynced : Stock → Type 0
+HasSynced stock = (class : Class) → All (λ chunk. chunk.unsynced ≡ false) (chunks (lane_of stock class))
+
+-- and no file in hand has bytes past its front
+abbrev pub EachSynced : Bool → Stock → Type 0
+EachSynced tells stock = (class : Class) → All (λ chunk. IsSynced tells chunk) (chunks (lane_of stock class))
 
 -- there is nothing to sync: no file was created since the last directory sync, and no chunk has unsynced bytes
 pub record IsSettled (stock : Stock) : Type 0 where

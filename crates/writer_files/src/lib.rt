@@ -4,3 +4,6 @@
 mod files;
 
 pub use files::WriterFiles;
+
+#[cfg(test)]
+mod tests;

@@ -1,8 +1,33 @@
-use Rattle.std.proofs.Common.{sym, rules}
+use Rattle.std.proofs.Common.{sym, rules, ◌∙◌, ◌≡◌, ap, Option, Some, None}
+use Rattle.hr_base.specs.declared.name.Class.{Class}
+use Rattle.value_chunk.specs.Chunks.{Chunk}
+use Rattle.writer_chunks.specs.Lanes.{LaneState}
+use Rattle.writer_files.specs.Stocks.{lane_of}
+use Rattle.writer_files.specs.StockViews.{stock}
 use Rattle.partition_writer.proofs.StandLaws.{stand_resumed}
-use Rattle.partition_writer.proofs.FileLaws.{none_taken}
+use Rattle.partition_writer.proofs.FileLaws.{none_taken, some_not_none}
+use Rattle.partition_writer.proofs.StockLaws.{none_own, none_ready}
 use Rattle.partition_writer.proofs.writer.Writer.resume.Goals as goal
+
+pub invariant_of-result : goal.invariant_of-result
+invariant_of-result g c =
+    let none = λ (class : Class) (chunk : Chunk) (is : (lane_of (stock c.new.result) class).taking ≡ Some chunk).
+    some_not_none (lane_of (stock c.new.result) class).taking chunk (ap (λ (lane : LaneState). lane.taking) (c.new.ensures.lanes class)) is in
+    record {
+      partitioned = c.requires.partition;
+      value_limit = c.requires.limits.value;
+      tomb_limit = c.requires.limits.tomb;
+      numbered = c.requires.numbered;
+      limited = c.requires.limited;
+      chunk_numbered = c.requires.chunk_numbered;
+      chunk_limited = c.requires.chunk_limited;
+      own = none_own c.args.p (stock c.new.result) none;
+      ready = λ running. none_ready (stock c.new.result) none;
+      below = λ tells running name file is. absurd (some_not_none _ file (c.new.ensures.files tells name) is);
+      unlost = search rules;
+      lengths = c.requires.lengths;
+    }
 
 pub returns-clause-account : goal.returns-clause-account
 returns-clause-account g c = λ tells b is maps first chunk.
-    stand_resumed _ b is (c.new.ensures.files tells) (none_taken _ c.new.ensures.lanes) (sym maps) (search rules) (sym first) (sym chunk) (search rules)
+    stand_resumed _ b is (c.new.ensures.files tells) (none_taken (stock c.new.result) c.new.ensures.lanes) (sym maps) (search rules) (sym first) (sym chunk) (search rules)

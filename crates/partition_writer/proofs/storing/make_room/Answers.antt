@@ -1,0 +1,13 @@
+use Rattle.std.proofs.Common.{rules}
+use Rattle.writer_files.specs.StockViews.{stock}
+use Rattle.partition_writer.proofs.StockLaws.{begun_own, refused_lanes, same_own}
+use Rattle.partition_writer.proofs.storing.make_room.Goals as goal
+
+pub returns-in_err-begin-clause-own : goal.returns-in_err-begin-clause-own
+returns-in_err-begin-clause-own g c =
+    same_own c.args.next.partition (stock c.args.files.now) (stock c.begin.new.self) c.requires.own
+    (refused_lanes g.F.Folder.tells _ (stock c.args.files.now) (stock c.begin.new.self) c.args.next c.in_err-begin.ensures.begun)
+
+pub returns-in_ok-begin-clause-own : goal.returns-in_ok-begin-clause-own
+returns-in_ok-begin-clause-own g c =
+    begun_own g.F.Folder.tells (stock c.args.files.now) (stock c.begin.new.self) c.args.class c.args.next c.requires.kind c.requires.own c.in_ok-begin.ensures.begun
