@@ -22,6 +22,10 @@ told_among outcome _ mid now (no_memory t) = inr (inr refl)
 told_among outcome _ mid now (not_taken t) = inr (inl refl)
 told_among outcome _ mid now (nothing_taken t) = inr (inl refl)
 
+-- the last line of an outcome is that of one that is the same
+same_line : (outcome other : Outcome) (mid now : Option (List ℕ)) → outcome ≡ other → Takes mid now (last_line outcome) → Takes mid now (last_line other)
+same_line outcome other mid now e taken = subst (λ (x : Outcome). Takes mid now (last_line x)) e taken
+
 -- ---- one status
 
 whole_of_status : (outcome : Outcome) → status_of outcome ≡ 0 → outcome ≡ Ended Whole
@@ -34,7 +38,7 @@ pub whole_told : (outcome : Outcome) (status : ℕ) (mid now : Option (List ℕ)
 whole_told outcome status mid now t e =
     let own = told_of outcome status mid now t (λ f. cc) (λ f. cc) in
     let whole = whole_of_status outcome (own.0 ∙ e) in
-    (whole, subst (λ (x : Outcome). Takes mid now (last_line x)) whole own.1)
+    (whole, same_line outcome (Ended Whole) mid now whole own.1)
 
 words_of_status : (outcome : Outcome) → status_of outcome ≡ 1 → outcome ≡ Words
 words_of_status Words e = refl
@@ -74,7 +78,7 @@ pub not_built_told : (outcome : Outcome) (status : ℕ) (mid now : Option (List 
 not_built_told outcome status mid now t e =
     let own = told_of outcome status mid now t (λ f. cc) (λ f. cc) in
     let held = not_built_of_status outcome (own.0 ∙ e) in
-    (held.0, held.1, subst (λ (x : Outcome). Takes mid now (last_line x)) held.1 own.1)
+    (held.0, held.1, same_line outcome (Ended (NotBuilt held.0)) mid now held.1 own.1)
 
 spent_of_status : (outcome : Outcome) → status_of outcome ≡ 8 → (next : ℕ) × (outcome ≡ Ended (Spent next))
 spent_of_status (Ended (Spent next)) e = (next, refl)

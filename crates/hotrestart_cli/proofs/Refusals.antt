@@ -1,5 +1,5 @@
 -- What has to be refused, and what has to be done.
-use Rattle.std.proofs.Common.{◌≡◌, ◌⊎◌, ◌∙◌, ℕ, ◌≤◌, Bool, true, List, [], ◌++◌, Option, Some, None, IsSome, refl, arith, inl, inr, subst, sym, ap}
+use Rattle.std.proofs.Common.{◌≡◌, ◌⊎◌, ◌∙◌, ℕ, ◌≤◌, Bool, true, List, [], Option, Some, None, IsSome, refl, arith, inl, inr, subst, sym, ap}
 use Rattle.std.specs.FinMap.{empty}
 use Rattle.std.proofs.lemmas.List.{append-nil}
 use Rattle.hr_base.specs.Counts.{Rose}
@@ -16,12 +16,12 @@ use Rattle.command_words.specs.declared.read.Command.{Command}
 use Rattle.command_words.specs.declared.read.Command.TheVariants.{Play}
 use Rattle.command_words.proofs.Words.{one_meaning}
 use Rattle.store_drill.specs.Sessions.{IsFirstHeld, Outside, Ran}
-use Rattle.store_drill.specs.declared.ended.Ended.TheVariants.{Whole, Sink, Disk, NotBuilt, Memory, Spent}
+use Rattle.store_drill.specs.declared.ended.Ended.TheVariants.{Whole, NotBuilt, Memory}
 use Rattle.hotrestart_cli.specs.declared.outcome.Outcome.{Outcome}
 use Rattle.hotrestart_cli.specs.declared.outcome.Outcome.TheVariants.{Words, TooLong, BadLine, Input, Ended}
 use Rattle.hotrestart_cli.specs.Outcome.{CanRefuse, last_line, status_of, Tells}
 use Rattle.hotrestart_cli.specs.Scripts.{IsFit, IsRefusedScript, IsUnfit}
-use Rattle.hotrestart_cli.specs.Served.{Because, CameTo, IsNoCommand, IsRefusedWords, Means, NotPlayed, RanTo, WasDone, WasNotBuilt, WasRefused, World}
+use Rattle.hotrestart_cli.specs.Served.{Because, CameTo, IsRefusedWords, Means, RanTo, WasDone, WasNotBuilt, WasRefused, World}
 use Rattle.hotrestart_cli.proofs.Outcomes.{not_built_told, told_of, unfit_of, whole_told}
 use Rattle.hotrestart_cli.proofs.ScriptLaws.{fit_not_bad, fit_not_long, unfit_script}
 
@@ -236,5 +236,5 @@ read_told tells words before mid now outcome status because heard after =
     let own = told_of outcome status mid.outside.taken now heard (λ f. not_after status 4 after f (λ z. cc) (λ z. cc) (λ z. cc)) (λ f. not_after status 7 after f (λ z. cc) (λ z. cc) (λ z. cc)) in
     let own_after : IsAfterScript (status_of outcome) = subst IsAfterScript (sym own.0) after in
     let m = obeyed tells words before mid outcome because
-        (λ f. not_after (status_of outcome) 1 own_after f (λ z. cc) (λ z. cc) (λ z. cc)) (λ f. not_after (status_of outcome) 7 own_after f (λ z. cc) (λ z. cc) (λ z. cc)) in
+    (λ f. not_after (status_of outcome) 1 own_after f (λ z. cc) (λ z. cc) (λ z. cc)) (λ f. not_after (status_of outcome) 7 own_after f (λ z. cc) (λ z. cc) (λ z. cc)) in
     read_by tells m.command before mid outcome m.holds own_after

@@ -1,11 +1,10 @@
 -- What is a script is refused for none of its lines.
-use Rattle.std.specs.Prelude.{◌≡◌, ◌⊎◌, ℕ, ◌≤◌, ◌^◌, List, length, Option, Some, None, refl}
-use Rattle.std.proofs.Common.{arith, inl, inr, subst}
+use Rattle.std.specs.Prelude.{ℕ, ◌^◌, List, Option, Some, None}
+use Rattle.std.proofs.Common.{arith, inl, inr}
 use Rattle.hr_edges.specs.Edges.{ReadsTooMuch}
 use Rattle.hr_edges.proofs.Readings.{ReadsTooMuch-all}
 use Rattle.script_text.specs.declared.line.Line.{Line}
 use Rattle.script_text.specs.declared.line.Mode.TheVariants.{Play}
-use Rattle.script_text.specs.Lines.{IsScript, IsFirstBad}
 use Rattle.script_text.proofs.Readings.{bad_or_script}
 use Rattle.hotrestart_cli.specs.Scripts.{IsScriptOf, IsBadAt, IsFit, IsTooLong, IsUnfit}
 
@@ -29,16 +28,3 @@ fit_not_long partitions (Some bytes) rest fit long = too_long_for_script partiti
 pub fit_not_bad : (partitions : ℕ) (left : Option (List ℕ)) (number : ℕ) → IsFit partitions left → IsBadAt partitions left number → ⊥
 fit_not_bad partitions None number fit bad = fit
 fit_not_bad partitions (Some bytes) number fit bad = bad_or_script_of partitions bytes fit.0 number bad fit.1
-
--- what was read of the bytes that the source tells
-pub script_of : (partitions : ℕ) (left : Option (List ℕ)) (bytes : List ℕ) (lines : List Line) → ((all : List ℕ) → left ≡ Some all → bytes ≡ all) → length bytes ≤ 2 ^ 26
-    → IsScript Play partitions bytes lines → IsScriptOf partitions left lines
-script_of partitions None bytes lines found short script = script.valid
-script_of partitions (Some all) bytes lines found short script =
-    subst (λ (b : List ℕ). (length b ≤ 2 ^ 26) × IsScript Play partitions b lines) (found all refl) (short, script)
-
-pub bad_at : (partitions : ℕ) (left : Option (List ℕ)) (bytes : List ℕ) (number : ℕ) → ((all : List ℕ) → left ≡ Some all → bytes ≡ all) → length bytes ≤ 2 ^ 26
-    → IsFirstBad Play partitions bytes number → IsBadAt partitions left number
-bad_at partitions None bytes number found short first = tt
-bad_at partitions (Some all) bytes number found short first =
-    subst (λ (b : List ℕ). (length b ≤ 2 ^ 26) × IsFirstBad Play partitions b number) (found all refl) (short, first)

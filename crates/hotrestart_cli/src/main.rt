@@ -12,8 +12,8 @@ mod output;
 mod script;
 mod serve;
 mod telling;
-
-
+#[cfg(test)]
+mod tests;
 
 use dir_files::MemFolder;
 use hr_edges::{StdSink, StdSource};

@@ -1,0 +1,29 @@
+use Rattle.std.proofs.Common.{◌≡◌, ℕ, List, Result, Err, IsErrOf, refl, inl, subst, sym, ◌∙◌}
+use Rattle.command_words.specs.declared.parse.WordsRefusal.{WordsRefusal}
+use Rattle.command_words.specs.declared.parse.WordsRefusal.TheVariants as refusal
+use Rattle.command_words.specs.declared.read.Command.{Command}
+use Rattle.command_words.specs.declared.read.Command.TheVariants.{Play}
+use Rattle.command_words.specs.Words.{texts_of}
+use Rattle.command_words.proofs.Words.{one_meaning}
+use Rattle.hotrestart_cli.specs.declared.outcome.Outcome.{Outcome}
+use Rattle.hotrestart_cli.specs.Ends.{outcome_of_words}
+use Rattle.hotrestart_cli.specs.Served.{IsNoCommand, IsRefusedWords}
+use Rattle.hotrestart_cli.proofs.serve.run.Goals as goal
+
+pub returns-in-Ok-Play-clause-spared : goal.returns-in-Ok-Play-clause-spared
+returns-in-Ok-Play-clause-spared g c limits meaning unfit =
+    let same : c.in-Ok-Play.field-0 ≡ Play limits = one_meaning _ _ _ c.in-Ok-Play.ensures.found meaning in
+    c.play_script.ensures.spared (rw same unfit)
+
+-- the refusal is told as it is
+refused : (words : List (List ℕ)) (result : Result Command WordsRefusal) (r : WordsRefusal) → result ≡ Err r → (IsErrOf result refusal.Words → IsNoCommand words) → IsRefusedWords words (outcome_of_words r)
+refused words result refusal.Memory is none = tt
+refused words result refusal.Words is none = none (subst (λ (x : Result Command WordsRefusal). IsErrOf x refusal.Words) (sym is) refl)
+
+pub returns-in-Err-clause-because : goal.returns-in-Err-clause-because
+returns-in-Err-clause-because g c =
+    inl (subst (λ (o : Outcome). IsRefusedWords (texts_of c.args.words.now) o) (sym c.from.ensures) (refused (texts_of c.args.words.now) _ _ c.in-Err.is c.read_words.ensures.refused), refl)
+
+pub returns-in-Err-clause-words : goal.returns-in-Err-clause-words
+returns-in-Err-clause-words g c e =
+    (subst (λ (o : Outcome). IsRefusedWords (texts_of c.args.words.now) o) (sym c.from.ensures ∙ e) (refused (texts_of c.args.words.now) _ _ c.in-Err.is c.read_words.ensures.refused), refl, refl, refl)
