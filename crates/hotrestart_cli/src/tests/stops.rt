@@ -143,7 +143,7 @@ impl Session {
         p: u8,
     ) -> Result<(), Fail> {
         let keys = self.keys.get(p as usize).ok_or("no partition")?;
-        for pick in [Pick::Least, Pick::Mix(0), Pick::Mix(3), Pick::Most] {
+        for pick in [Pick::Least, Pick::Mix(0), Pick::Mix(3)] {
             let maps = maps_left(self.alloc, left, p, pick)?;
             for key in maps.keys() {
                 assert!(rt; keys.contains_key(key));
