@@ -1,6 +1,4 @@
-mod FolderLaws
-mod NameOrders
+mod LineCounts
+mod Outcomes
 mod Refusals
 mod ScriptLaws
-mod SessionLaws
-mod Sizes

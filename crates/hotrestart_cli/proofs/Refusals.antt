@@ -1,138 +1,31 @@
 -- What has to be refused, and what has to be done.
-use Rattle.std.proofs.Common.{◌≡◌, ◌⊎◌, ℕ, ◌≤◌, Bool, true, List, Option, Some, None, IsSome, refl, arith, inl, inr, subst}
-use Rattle.script_text.specs.declared.line.Line.{Line}
+use Rattle.std.proofs.Common.{◌≡◌, ◌⊎◌, ◌∙◌, ℕ, ◌≤◌, Bool, true, List, [], Option, Some, None, IsSome, refl, arith, inl, inr, subst, sym, ap}
+use Rattle.std.specs.FinMap.{empty}
+use Rattle.std.proofs.lemmas.List.{append-nil}
 use Rattle.hr_base.specs.Counts.{Rose}
-use Rattle.hr_edges.specs.Edges.{IsRead}
+use Rattle.hr_base.specs.declared.limits.Limits.{Limits}
 use Rattle.hr_base.specs.declared.name.ChunkName.{ChunkName}
+use Rattle.hr_edges.specs.Edges.{IsRead, Takes}
+use Rattle.hr_edges.proofs.Writings.{Takes-append}
 use Rattle.dir_files.specs.Files.{FileState}
 use Rattle.dir_files.specs.Ports.{Port}
-use Rattle.hotrestart_cli.specs.declared.ended.Ended.{Ended}
-use Rattle.hotrestart_cli.specs.declared.ended.Ended.TheVariants.{Whole, Words, TooLong, BadLine, Input, Sink, Disk, NotBuilt, Memory}
-use Rattle.hotrestart_cli.specs.Outcome.{IsSessionEnd, IsEarly, CanRefuse, CanRefuseFolder, status_of, Tells, told, no_memory, not_taken, nothing_taken}
-use Rattle.hotrestart_cli.specs.Scripts.{IsScriptOf, IsUnfit, IsFit}
-use Rattle.hotrestart_cli.specs.Folders.{Because, Ran, WasRefused, WasNotBuilt}
-use Rattle.hotrestart_cli.proofs.ScriptLaws.{bad_or_playable, too_long_for_script}
+use Rattle.script_text.specs.declared.line.Line.{Line}
+use Rattle.script_text.specs.Replies.{replies}
+use Rattle.command_words.specs.Words.{IsCommand}
+use Rattle.command_words.specs.declared.read.Command.{Command}
+use Rattle.command_words.specs.declared.read.Command.TheVariants.{Play}
+use Rattle.command_words.proofs.Words.{one_meaning}
+use Rattle.store_drill.specs.Sessions.{IsFirstHeld, Outside, Ran}
+use Rattle.store_drill.specs.declared.ended.Ended.TheVariants.{Whole, NotBuilt, Memory}
+use Rattle.hotrestart_cli.specs.declared.outcome.Outcome.{Outcome}
+use Rattle.hotrestart_cli.specs.declared.outcome.Outcome.TheVariants.{Words, TooLong, BadLine, Input, Ended}
+use Rattle.hotrestart_cli.specs.Outcome.{CanRefuse, last_line, status_of, Tells}
+use Rattle.hotrestart_cli.specs.Scripts.{IsFit, IsRefusedScript, IsUnfit}
+use Rattle.hotrestart_cli.specs.Served.{Because, CameTo, IsRefusedWords, Means, RanTo, WasDone, WasNotBuilt, WasRefused, World}
+use Rattle.hotrestart_cli.proofs.Outcomes.{not_built_told, told_of, unfit_of, whole_told}
+use Rattle.hotrestart_cli.proofs.ScriptLaws.{fit_not_bad, fit_not_long, unfit_script}
 
--- before its lines a session is refused with the folder as it was
-pub early_session : (ended : Ended) → IsSessionEnd ended → IsEarly ended → ⊥
-early_session Whole end early = early
-early_session Sink end early = early
-early_session Disk end early = early
-early_session Memory end early = early
-early_session (NotBuilt name) end early = early
-early_session Words end early = end
-early_session TooLong end early = end
-early_session (BadLine number) end early = end
-early_session Input end early = end
-
-early_of_status : (ended : Ended) (n : ℕ) → status_of ended ≡ n → (n ≡ 1) ⊎ (n ≡ 2) ⊎ (n ≡ 3) → IsEarly ended
-early_of_status Words n e h = tt
-early_of_status TooLong n e h = tt
-early_of_status (BadLine number) n e h = tt
-early_of_status Input n e h = tt
-early_of_status Whole n e h = elim h [ inl a ↦ cc | inr r ↦ elim r [ inl b ↦ cc | inr c ↦ cc ] ]
-early_of_status Sink n e h = elim h [ inl a ↦ cc | inr r ↦ elim r [ inl b ↦ cc | inr c ↦ cc ] ]
-early_of_status Disk n e h = elim h [ inl a ↦ cc | inr r ↦ elim r [ inl b ↦ cc | inr c ↦ cc ] ]
-early_of_status (NotBuilt name) n e h = elim h [ inl a ↦ cc | inr r ↦ elim r [ inl b ↦ cc | inr c ↦ cc ] ]
-early_of_status Memory n e h = elim h [ inl a ↦ cc | inr r ↦ elim r [ inl b ↦ cc | inr c ↦ cc ] ]
-
-pub early_told : (ended : Ended) (status : ℕ) (mid now : Option (List ℕ)) → Tells ended status mid now → (status ≡ 1) ⊎ (status ≡ 2) ⊎ (status ≡ 3) → IsEarly ended
-early_told ended _ mid now (told t) h = early_of_status ended _ refl h
-early_told ended _ mid now (no_memory t) h = elim h [ inl a ↦ cc | inr r ↦ elim r [ inl b ↦ cc | inr c ↦ cc ] ]
-early_told ended _ mid now (not_taken t) h = elim h [ inl a ↦ cc | inr r ↦ elim r [ inl b ↦ cc | inr c ↦ cc ] ]
-early_told ended _ mid now (nothing_taken t) h = elim h [ inl a ↦ cc | inr r ↦ elim r [ inl b ↦ cc | inr c ↦ cc ] ]
-
--- a script that is no script has no lines
-pub unfit_script : (left : Option (List ℕ)) (lines : List Line) → IsUnfit left → IsScriptOf left lines → ⊥
-unfit_script None lines u s = u
-unfit_script (Some bytes) lines u s =
-    elim u [ inl long ↦ omega (arith, long, s.0) | inr bad ↦ bad_or_playable bytes lines bad.0 bad.1 s ]
-
-unfit_by : (tells play : Bool) (left rest : Option (List ℕ)) (old new : Port) (before mid : Option (List ℕ)) (ended : Ended)
-    → Because tells play left rest old new before mid ended → play ≡ true → IsUnfit left → CanRefuse (status_of ended)
-unfit_by tells play left rest old new before mid Words b y u = cc
-unfit_by tells play left rest old new before mid TooLong b y u = inl refl
-unfit_by tells play left rest old new before mid (BadLine number) b y u = inl refl
-unfit_by tells play left rest old new before mid Input b y u = inr (inl refl)
-unfit_by tells play left rest old new before mid Memory b y u = inr (inr (inr refl))
-unfit_by tells play left rest old new before mid Whole b y u = absurd (unfit_script left b.1.lines u b.1.script)
-unfit_by tells play left rest old new before mid Sink b y u = absurd (unfit_script left b.1.lines u b.1.script)
-unfit_by tells play left rest old new before mid Disk b y u = absurd (unfit_script left b.1.lines u b.1.script)
-unfit_by tells play left rest old new before mid (NotBuilt name) b y u = absurd (unfit_script left b.1.lines u b.1.script)
-
-unfit_of : (ended : Ended) (status : ℕ) (mid now : Option (List ℕ)) → Tells ended status mid now → CanRefuse (status_of ended) → CanRefuse status
-unfit_of ended _ mid now (told t) h = h
-unfit_of ended _ mid now (no_memory t) h = inr (inr (inr refl))
-unfit_of ended _ mid now (not_taken t) h = inr (inr (inl refl))
-unfit_of ended _ mid now (nothing_taken t) h = inr (inr (inl refl))
-
--- what is no script is refused
-pub unfit_told : (tells play : Bool) (left rest : Option (List ℕ)) (old new : Port) (before mid now : Option (List ℕ)) (ended : Ended) (status : ℕ)
-    → Because tells play left rest old new before mid ended → Tells ended status mid now → play ≡ true → IsUnfit left → CanRefuse status
-unfit_told tells play left rest old new before mid now ended status b t y u =
-    unfit_of ended status mid now t (unfit_by tells play left rest old new before mid ended b y u)
-
--- a script that is one is not refused
-pub fit_refused : (left rest before now : Option (List ℕ)) → IsFit left → WasRefused left rest before now → ⊥
-fit_refused None rest before now f w = f
-fit_refused (Some bytes) rest before now f w =
-    elim w [ inl long ↦ too_long_for_script bytes rest f.0 long.0 f.1 | inr bad ↦ bad_or_playable bytes f.0 bad.0 bad.1 f.1 ]
-
-done_of_status : (ended : Ended) (n : ℕ) → n ≡ status_of ended
-    → (n ≡ 1 → ⊥) → (n ≡ 2 → ⊥) → (n ≡ 3 → ⊥) → (n ≡ 4 → ⊥) → (n ≡ 5 → ⊥) → (n ≡ 6 → ⊥) → (n ≡ 0) ⊎ (n ≡ 7)
-done_of_status Whole n e one two three four five six = inl e
-done_of_status Words n e one two three four five six = absurd (one e)
-done_of_status TooLong n e one two three four five six = absurd (two e)
-done_of_status (BadLine number) n e one two three four five six = absurd (two e)
-done_of_status Input n e one two three four five six = absurd (three e)
-done_of_status Sink n e one two three four five six = absurd (four e)
-done_of_status Disk n e one two three four five six = absurd (five e)
-done_of_status (NotBuilt name) n e one two three four five six = absurd (six e)
-done_of_status Memory n e one two three four five six = inr e
-
--- what is refused for none of the six causes is done, or lacked memory
-pub all_done : (ended : Ended) (status : ℕ) (mid now : Option (List ℕ)) → Tells ended status mid now
-    → (status ≡ 1 → ⊥) → (status ≡ 2 → ⊥) → (status ≡ 3 → ⊥) → (status ≡ 4 → ⊥) → (status ≡ 5 → ⊥) → (status ≡ 6 → ⊥) → (status ≡ 0) ⊎ (status ≡ 7)
-all_done ended _ mid now (told t) one two three four five six = done_of_status ended _ refl one two three four five six
-all_done ended _ mid now (no_memory t) one two three four five six = inr refl
-all_done ended _ mid now (not_taken t) one two three four five six = absurd (four refl)
-all_done ended _ mid now (nothing_taken t) one two three four five six = absurd (four refl)
-
--- ---- what a status says of the end
-
-input_of_status : (ended : Ended) → status_of ended ≡ 3 → ended ≡ Input
-input_of_status Input e = refl
-input_of_status Whole e = cc
-input_of_status Words e = cc
-input_of_status TooLong e = cc
-input_of_status (BadLine number) e = cc
-input_of_status Sink e = cc
-input_of_status Disk e = cc
-input_of_status (NotBuilt name) e = cc
-input_of_status Memory e = cc
-
-disk_of_status : (ended : Ended) → status_of ended ≡ 5 → ended ≡ Disk
-disk_of_status Disk e = refl
-disk_of_status Whole e = cc
-disk_of_status Words e = cc
-disk_of_status TooLong e = cc
-disk_of_status (BadLine number) e = cc
-disk_of_status Input e = cc
-disk_of_status Sink e = cc
-disk_of_status (NotBuilt name) e = cc
-disk_of_status Memory e = cc
-
-pub input_told : (ended : Ended) (status : ℕ) (mid now : Option (List ℕ)) → Tells ended status mid now → status ≡ 3 → ended ≡ Input
-input_told ended _ mid now (told t) e = input_of_status ended e
-input_told ended _ mid now (no_memory t) e = cc
-input_told ended _ mid now (not_taken t) e = cc
-input_told ended _ mid now (nothing_taken t) e = cc
-
-pub disk_told : (ended : Ended) (status : ℕ) (mid now : Option (List ℕ)) → Tells ended status mid now → status ≡ 5 → ended ≡ Disk
-disk_told ended _ mid now (told t) e = disk_of_status ended e
-disk_told ended _ mid now (no_memory t) e = cc
-disk_told ended _ mid now (not_taken t) e = cc
-disk_told ended _ mid now (nothing_taken t) e = cc
+-- ---- counts
 
 -- a count that rose stays risen, and rose from what it was before
 pub rose_later : (a b c : ℕ) → Rose a b → b ≤ c → Rose a c
@@ -141,66 +34,207 @@ rose_later a b c rose more = omega (arith, rose, more)
 pub rose_earlier : (a b c : ℕ) → a ≤ b → Rose b c → Rose a c
 rose_earlier a b c more rose = omega (arith, rose, more)
 
--- ---- a folder that holds a chunk file
+-- ---- words
 
-held_of_status : (ended : Ended) (n : ℕ) → n ≡ status_of ended → (n ≡ 0 → ⊥) → (n ≡ 1 → ⊥) → (n ≡ 2 → ⊥) → CanRefuseFolder n
-held_of_status Whole n e zero one two = absurd (zero e)
-held_of_status Words n e zero one two = absurd (one e)
-held_of_status TooLong n e zero one two = absurd (two e)
-held_of_status (BadLine number) n e zero one two = absurd (two e)
-held_of_status Input n e zero one two = inl e
-held_of_status Sink n e zero one two = inr (inl e)
-held_of_status Disk n e zero one two = inr (inr (inl e))
-held_of_status (NotBuilt name) n e zero one two = inr (inr (inr (inl e)))
-held_of_status Memory n e zero one two = inr (inr (inr (inr e)))
+-- no command is read for two reasons
+pub refused_words : (words : List (List ℕ)) (outcome : Outcome) → IsRefusedWords words outcome → (outcome ≡ Words) ⊎ (outcome ≡ Ended Memory)
+refused_words words Words h = inl refl
+refused_words words (Ended Memory) h = inr refl
+refused_words words (Ended other) h = absurd h
+refused_words words other h = absurd h
 
-pub held_told : (ended : Ended) (status : ℕ) (mid now : Option (List ℕ)) → Tells ended status mid now → (status ≡ 0 → ⊥) → (status ≡ 1 → ⊥) → (status ≡ 2 → ⊥) → CanRefuseFolder status
-held_told ended _ mid now (told t) zero one two = held_of_status ended _ refl zero one two
-held_told ended _ mid now (no_memory t) zero one two = inr (inr (inr (inr refl)))
-held_told ended _ mid now (not_taken t) zero one two = inr (inl refl)
-held_told ended _ mid now (nothing_taken t) zero one two = inr (inl refl)
+-- what holds of each command that comes to something holds of the one that the words mean
+pub means_also : (words : List (List ℕ)) (Holds Follows : Command → Type 0) → ((command : Command) → Holds command → Follows command) → Means words Holds → Means words Follows
+means_also words Holds Follows step m = record { command = m.command; meaning = m.meaning; holds = step m.command m.holds }
+
+-- and it holds of that one alone
+pub means_this : (words : List (List ℕ)) (Holds : Command → Type 0) (command : Command) → IsCommand words command → Means words Holds → Holds command
+means_this words Holds command meaning m = subst Holds (one_meaning words m.command command m.meaning meaning) m.holds
+
+-- a status other than 1 and 7 comes of a command
+pub obeyed : (tells : Bool) (words : List (List ℕ)) (before mid : World) (outcome : Outcome) → Because tells words before mid outcome
+    → (status_of outcome ≡ 1 → ⊥) → (status_of outcome ≡ 7 → ⊥) → Means words (λ command. CameTo tells command before mid outcome)
+obeyed tells words before mid outcome because one seven =
+    elim because [
+      | inl none ↦ elim (refused_words words outcome none.0) [ inl e ↦ absurd (one (ap status_of e)) | inr e ↦ absurd (seven (ap status_of e)) ]
+      | inr m ↦ m
+    ]
+
+-- ---- status 0
+
+whole_text : (tells : Bool) (partitions : ℕ) (lines : List Line) (old new : Outside) → Ran tells partitions lines old new Whole → Takes old.taken new.taken (replies lines (λ _. empty))
+whole_text tells partitions lines old new ran = elim ran [ inl none ↦ absurd (none.unfinished refl) | inr session ↦ session.text ]
+
+done_by : (tells : Bool) (command : Command) (before mid : World) (now : Option (List ℕ)) → CameTo tells command before mid (Ended Whole) → Takes mid.outside.taken now []
+    → WasDone command before.left before.outside.taken now
+done_by tells (Play limits) before mid now came taken =
+    elim came [
+      | inl refused ↦ absurd refused.why
+      | inr ran ↦ record {
+        lines = ran.lines;
+        script = ran.script;
+        text =
+            subst (λ (t : List ℕ). Takes before.outside.taken now t) (append-nil (replies ran.lines (λ _. empty)))
+            (Takes-append before.outside.taken mid.outside.taken now (replies ran.lines (λ _. empty)) [] (whole_text tells limits.partitions ran.lines before.outside mid.outside ran.ran) taken);
+      }
+    ]
+
+-- the whole script was done
+pub done_told : (tells : Bool) (words : List (List ℕ)) (before mid : World) (now : Option (List ℕ)) (outcome : Outcome) (status : ℕ)
+    → Because tells words before mid outcome → Tells outcome status mid.outside.taken now → status ≡ 0 → Means words (λ command. WasDone command before.left before.outside.taken now)
+done_told tells words before mid now outcome status because heard e =
+    let whole = whole_told outcome status mid.outside.taken now heard e in
+    let came : Because tells words before mid (Ended Whole) = subst (λ (x : Outcome). Because tells words before mid x) whole.0 because in
+    means_also words (λ command. CameTo tells command before mid (Ended Whole)) (λ command. WasDone command before.left before.outside.taken now)
+    (λ command did. done_by tells command before mid now did whole.1)
+    (obeyed tells words before mid (Ended Whole) came (λ f. cc) (λ f. cc))
 
 nothing_held : (file : Option FileState) → file ≡ None → IsSome file → ⊥
 nothing_held None e h = cc
 nothing_held (Some f) e h = cc
 
--- no session began over it
-pub not_whole : (tells : Bool) (lines : List Line) (old new : Port) (before mid : Option (List ℕ)) (name : ChunkName)
-    → Ran tells lines old new before mid Whole → tells ≡ true → IsSome (old.held name) → ⊥
-not_whole tells lines old new before mid name ran y h =
-    elim ran [ inl none ↦ none.unfinished refl | inr session ↦ nothing_held (old.held name) (session.fresh y name) h ]
+-- no session ends whole over a folder with a chunk file
+not_whole_by : (tells : Bool) (command : Command) (before mid : World) (name : ChunkName) → CameTo tells command before mid (Ended Whole) → tells ≡ true → IsSome (before.outside.port.held name) → ⊥
+not_whole_by tells (Play limits) before mid name came y held =
+    elim came [
+      | inl refused ↦ refused.why
+      | inr ran ↦ elim ran.ran [ inl none ↦ none.unfinished refl | inr session ↦ nothing_held (before.outside.port.held name) (session.fresh y name) held ]
+    ]
 
-pub not_whole_by : (tells play : Bool) (left rest : Option (List ℕ)) (old new : Port) (before mid : Option (List ℕ)) (ended : Ended) (name : ChunkName)
-    → Because tells play left rest old new before mid ended → ended ≡ Whole → tells ≡ true → IsSome (old.held name) → ⊥
-not_whole_by tells play left rest old new before mid ended name because e y h =
-    let b = subst (λ (x : Ended). Because tells play left rest old new before mid x) e because in
-    not_whole tells b.1.lines old new before mid name b.1.ran y h
+pub not_whole : (tells : Bool) (words : List (List ℕ)) (before mid : World) (now : Option (List ℕ)) (outcome : Outcome) (status : ℕ) (name : ChunkName)
+    → Because tells words before mid outcome → Tells outcome status mid.outside.taken now → status ≡ 0 → tells ≡ true → IsSome (before.outside.port.held name) → ⊥
+not_whole tells words before mid now outcome status name because heard e y held =
+    let whole = whole_told outcome status mid.outside.taken now heard e in
+    let came : Because tells words before mid (Ended Whole) = subst (λ (x : Outcome). Because tells words before mid x) whole.0 because in
+    let m = obeyed tells words before mid (Ended Whole) came (λ f. cc) (λ f. cc) in
+    not_whole_by tells m.command before mid name m.holds y held
+
+-- ---- status 2
+
+refused_by : (tells : Bool) (command : Command) (before mid : World) (now : Option (List ℕ)) (outcome : Outcome)
+    → status_of outcome ≡ 2 → CameTo tells command before mid outcome → Takes mid.outside.taken now (last_line outcome) → WasRefused command before.left mid.left before.outside.taken now
+refused_by tells (Play limits) before mid now TooLong e came taken =
+    elim came [
+      | inl refused ↦ inl (refused.why, subst (λ (o : Outside). Takes o.taken now (last_line TooLong)) refused.same taken)
+      | inr ran ↦ absurd ran
+    ]
+refused_by tells (Play limits) before mid now (BadLine number) e came taken =
+    elim came [
+      | inl refused ↦ inr (number, refused.why.0, refused.why.1, subst (λ (o : Outside). Takes o.taken now (last_line (BadLine number))) refused.same taken)
+      | inr ran ↦ absurd ran
+    ]
+refused_by tells (Play limits) before mid now (Ended Whole) e came taken = cc
+refused_by tells (Play limits) before mid now (Ended other) e came taken = cc
+refused_by tells (Play limits) before mid now other e came taken = cc
+
+-- the script was refused, and told so
+pub refused_told : (tells : Bool) (words : List (List ℕ)) (before mid : World) (now : Option (List ℕ)) (outcome : Outcome) (status : ℕ)
+    → Because tells words before mid outcome → Tells outcome status mid.outside.taken now → status ≡ 2 → Means words (λ command. WasRefused command before.left mid.left before.outside.taken now)
+refused_told tells words before mid now outcome status because heard e =
+    let own = told_of outcome status mid.outside.taken now heard (λ f. cc) (λ f. cc) in
+    let two : status_of outcome ≡ 2 = own.0 ∙ e in
+    means_also words (λ command. CameTo tells command before mid outcome) (λ command. WasRefused command before.left mid.left before.outside.taken now)
+    (λ command did. refused_by tells command before mid now outcome two did own.1)
+    (obeyed tells words before mid outcome because (λ f. cc) (λ f. cc))
+
+-- a script that is one is not refused
+pub fit_refused : (limits : Limits) (left rest before now : Option (List ℕ)) → IsFit limits.partitions left → WasRefused (Play limits) left rest before now → ⊥
+fit_refused limits left rest before now fit refused =
+    elim refused [ inl long ↦ fit_not_long limits.partitions left rest fit long.0 | inr bad ↦ fit_not_bad limits.partitions left bad.0 fit bad.1 ]
+
+unfit_why : (partitions : ℕ) (left rest : Option (List ℕ)) (outcome : Outcome) → IsRefusedScript partitions left rest outcome → CanRefuse (status_of outcome)
+unfit_why partitions left rest TooLong why = inl refl
+unfit_why partitions left rest (BadLine number) why = inl refl
+unfit_why partitions left rest Input why = inr (inl refl)
+unfit_why partitions left rest (Ended Memory) why = inr (inr (inr refl))
+unfit_why partitions left rest (Ended other) why = absurd why
+unfit_why partitions left rest other why = absurd why
+
+unfit_ran : (tells : Bool) (partitions : ℕ) (before mid : World) (outcome : Outcome) → RanTo tells partitions before mid outcome → IsUnfit partitions before.left → ⊥
+unfit_ran tells partitions before mid (Ended ended) ran unfit = unfit_script partitions before.left ran.lines unfit ran.script
+unfit_ran tells partitions before mid other ran unfit = ran
+
+unfit_by : (tells : Bool) (words : List (List ℕ)) (before mid : World) (outcome : Outcome) (limits : Limits)
+    → Because tells words before mid outcome → IsCommand words (Play limits) → IsUnfit limits.partitions before.left → CanRefuse (status_of outcome)
+unfit_by tells words before mid outcome limits because meaning unfit =
+    elim because [
+      | inl none ↦ wordless outcome none.0
+      | inr m ↦
+          elim (means_this words (λ command. CameTo tells command before mid outcome) (Play limits) meaning m) [
+            | inl refused ↦ unfit_why limits.partitions before.left mid.left outcome refused.why
+            | inr ran ↦ absurd (unfit_ran tells limits.partitions before mid outcome ran unfit)
+          ]
+    ] where
+      wordless : (x : Outcome) → IsRefusedWords words x → CanRefuse (status_of x)
+      wordless Words h = absurd (h (Play limits) meaning)
+      wordless (Ended Memory) h = inr (inr (inr refl))
+      wordless (Ended other) h = absurd h
+      wordless other h = absurd h
+
+-- what is no script is refused
+pub unfit_told : (tells : Bool) (words : List (List ℕ)) (before mid : World) (now : Option (List ℕ)) (outcome : Outcome) (status : ℕ) (limits : Limits)
+    → Because tells words before mid outcome → Tells outcome status mid.outside.taken now → IsCommand words (Play limits) → IsUnfit limits.partitions before.left → CanRefuse status
+unfit_told tells words before mid now outcome status limits because heard meaning unfit =
+    unfit_of outcome status mid.outside.taken now heard (unfit_by tells words before mid outcome limits because meaning unfit)
+
+-- ---- status 6
+
+silent_by : (tells : Bool) (command : Command) (before mid : World) (name : ChunkName) → CameTo tells command before mid (Ended (NotBuilt name)) → mid.outside.taken ≡ before.outside.taken
+silent_by tells (Play limits) before mid name came =
+    elim came [ inl refused ↦ absurd refused.why | inr ran ↦ elim ran.ran [ inl none ↦ none.silent | inr session ↦ absurd session.text ] ]
+
+-- a chunk file that the folder held was told
+pub named_told : (tells : Bool) (words : List (List ℕ)) (before mid : World) (now : Option (List ℕ)) (outcome : Outcome) (status : ℕ)
+    → Because tells words before mid outcome → Tells outcome status mid.outside.taken now
+    → ((name : ChunkName) → outcome ≡ Ended (NotBuilt name) → IsFirstHeld before.outside.port name) → status ≡ 6 → WasNotBuilt before.outside.port before.outside.taken now
+named_told tells words before mid now outcome status because heard first e =
+    let held = not_built_told outcome status mid.outside.taken now heard e in
+    let came : Because tells words before mid (Ended (NotBuilt held.0)) = subst (λ (x : Outcome). Because tells words before mid x) held.1 because in
+    let m = obeyed tells words before mid (Ended (NotBuilt held.0)) came (λ f. cc) (λ f. cc) in
+    record {
+      name = held.0;
+      first = first held.0 held.1;
+      text = subst (λ (t : Option (List ℕ)). Takes t now (last_line (Ended (NotBuilt held.0)))) (silent_by tells m.command before mid held.0 m.holds) held.2;
+    }
 
 -- and a folder without files is not refused for one
 pub not_refused : (port : Port) (before now : Option (List ℕ)) → ((name : ChunkName) → port.held name ≡ None) → WasNotBuilt port before now → ⊥
-not_refused port before now none w = nothing_held (port.held w.name) (none w.name) w.first.held
+not_refused port before now none told = nothing_held (port.held told.name) (none told.name) told.first.held
 
 -- ---- how far the script was read
 
 abbrev IsAfterScript : ℕ → Type 0
 IsAfterScript status = (status ≡ 0) ⊎ (status ≡ 5) ⊎ (status ≡ 6)
 
-read_by : (tells play : Bool) (left rest : Option (List ℕ)) (old new : Port) (before mid : Option (List ℕ)) (ended : Ended)
-    → Because tells play left rest old new before mid ended → IsAfterScript (status_of ended) → IsRead left rest
-read_by tells play left rest old new before mid Whole b h = b.1.read
-read_by tells play left rest old new before mid Disk b h = b.1.read
-read_by tells play left rest old new before mid (NotBuilt name) b h = b.1.read
-read_by tells play left rest old new before mid Words b h = elim h [ inl x ↦ cc | inr r ↦ elim r [ inl y ↦ cc | inr z ↦ cc ] ]
-read_by tells play left rest old new before mid TooLong b h = elim h [ inl x ↦ cc | inr r ↦ elim r [ inl y ↦ cc | inr z ↦ cc ] ]
-read_by tells play left rest old new before mid (BadLine number) b h = b.2
-read_by tells play left rest old new before mid Input b h = elim h [ inl x ↦ cc | inr r ↦ elim r [ inl y ↦ cc | inr z ↦ cc ] ]
-read_by tells play left rest old new before mid Sink b h = b.1.read
-read_by tells play left rest old new before mid Memory b h = elim h [ inl x ↦ cc | inr r ↦ elim r [ inl y ↦ cc | inr z ↦ cc ] ]
+not_after : (status n : ℕ) → IsAfterScript status → status ≡ n → (n ≡ 0 → ⊥) → (n ≡ 5 → ⊥) → (n ≡ 6 → ⊥) → ⊥
+not_after status n after e zero five six =
+    elim after [ inl a ↦ zero (sym e ∙ a) | inr r ↦ elim r [ inl b ↦ five (sym e ∙ b) | inr c ↦ six (sym e ∙ c) ] ]
+
+read_refused : (partitions : ℕ) (left rest : Option (List ℕ)) (outcome : Outcome) → IsRefusedScript partitions left rest outcome → IsAfterScript (status_of outcome) → IsRead left rest
+read_refused partitions left rest TooLong why after = absurd (not_after 2 2 after refl (λ f. cc) (λ f. cc) (λ f. cc))
+read_refused partitions left rest (BadLine number) why after = why.1
+read_refused partitions left rest Input why after = absurd (not_after 3 3 after refl (λ f. cc) (λ f. cc) (λ f. cc))
+read_refused partitions left rest (Ended Memory) why after = absurd (not_after 7 7 after refl (λ f. cc) (λ f. cc) (λ f. cc))
+read_refused partitions left rest (Ended other) why after = absurd why
+read_refused partitions left rest other why after = absurd why
+
+read_ran : (tells : Bool) (partitions : ℕ) (before mid : World) (outcome : Outcome) → RanTo tells partitions before mid outcome → IsRead before.left mid.left
+read_ran tells partitions before mid (Ended ended) ran = ran.read
+read_ran tells partitions before mid other ran = absurd ran
+
+read_by : (tells : Bool) (command : Command) (before mid : World) (outcome : Outcome) → CameTo tells command before mid outcome → IsAfterScript (status_of outcome) → IsRead before.left mid.left
+read_by tells (Play limits) before mid outcome came after =
+    elim came [
+      | inl refused ↦ read_refused limits.partitions before.left mid.left outcome refused.why after
+      | inr ran ↦ read_ran tells limits.partitions before mid outcome ran
+    ]
 
 -- a script that was played, or refused by the folder, was read to its end
-pub read_told : (tells play : Bool) (left rest : Option (List ℕ)) (old new : Port) (before mid now : Option (List ℕ)) (ended : Ended) (status : ℕ)
-    → Because tells play left rest old new before mid ended → Tells ended status mid now → IsAfterScript status → IsRead left rest
-read_told tells play left rest old new before mid now ended _ b (told t) h = read_by tells play left rest old new before mid ended b h
-read_told tells play left rest old new before mid now ended _ b (no_memory t) h = elim h [ inl x ↦ cc | inr r ↦ elim r [ inl y ↦ cc | inr z ↦ cc ] ]
-read_told tells play left rest old new before mid now ended _ b (not_taken t) h = elim h [ inl x ↦ cc | inr r ↦ elim r [ inl y ↦ cc | inr z ↦ cc ] ]
-read_told tells play left rest old new before mid now ended _ b (nothing_taken t) h = elim h [ inl x ↦ cc | inr r ↦ elim r [ inl y ↦ cc | inr z ↦ cc ] ]
+pub read_told : (tells : Bool) (words : List (List ℕ)) (before mid : World) (now : Option (List ℕ)) (outcome : Outcome) (status : ℕ)
+    → Because tells words before mid outcome → Tells outcome status mid.outside.taken now → IsAfterScript status → IsRead before.left mid.left
+read_told tells words before mid now outcome status because heard after =
+    let own = told_of outcome status mid.outside.taken now heard (λ f. not_after status 4 after f (λ z. cc) (λ z. cc) (λ z. cc)) (λ f. not_after status 7 after f (λ z. cc) (λ z. cc) (λ z. cc)) in
+    let own_after : IsAfterScript (status_of outcome) = subst IsAfterScript (sym own.0) after in
+    let m = obeyed tells words before mid outcome because
+    (λ f. not_after (status_of outcome) 1 own_after f (λ z. cc) (λ z. cc) (λ z. cc)) (λ f. not_after (status_of outcome) 7 own_after f (λ z. cc) (λ z. cc) (λ z. cc)) in
+    read_by tells m.command before mid outcome m.holds own_after

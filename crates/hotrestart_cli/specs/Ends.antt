@@ -1,25 +1,26 @@
--- How a session ends at a refusal.
-use Rattle.dir_files.specs.declared.folder.FolderRefusal.{FolderRefusal}
-use Rattle.dir_files.specs.declared.folder.FolderRefusal.TheVariants as folder
+-- What the program comes to at a refusal.
+use Rattle.command_words.specs.declared.parse.WordsRefusal.{WordsRefusal}
+use Rattle.command_words.specs.declared.parse.WordsRefusal.TheVariants as words
 use Rattle.script_text.specs.declared.script.ScriptRefusal.{ScriptRefusal}
 use Rattle.script_text.specs.declared.script.ScriptRefusal.TheVariants as script
+use Rattle.store_drill.specs.declared.ended.Ended.TheVariants.{Memory}
 use Rattle.hotrestart_cli.specs.declared.input.InputRefusal.{InputRefusal}
 use Rattle.hotrestart_cli.specs.declared.input.InputRefusal.TheVariants as input
-use Rattle.hotrestart_cli.specs.declared.ended.Ended.{Ended}
-use Rattle.hotrestart_cli.specs.declared.ended.Ended.TheVariants.{TooLong, BadLine, Input, Disk, Memory}
+use Rattle.hotrestart_cli.specs.declared.outcome.Outcome.{Outcome}
+use Rattle.hotrestart_cli.specs.declared.outcome.Outcome.TheVariants.{Words, TooLong, BadLine, Input, Ended}
+
+-- where the words were not read
+abbrev pub outcome_of_words : WordsRefusal → Outcome
+outcome_of_words words.Memory = Ended Memory
+outcome_of_words words.Words = Words
 
 -- where the input could not be read
-abbrev pub ended_of_input : InputRefusal → Ended
-ended_of_input input.Memory = Memory
-ended_of_input input.TooLong = TooLong
-ended_of_input input.Failed = Input
+abbrev pub outcome_of_input : InputRefusal → Outcome
+outcome_of_input input.Memory = Ended Memory
+outcome_of_input input.TooLong = TooLong
+outcome_of_input input.Failed = Input
 
 -- where it is no script
-abbrev pub ended_of_script : ScriptRefusal → Ended
-ended_of_script script.Memory = Memory
-ended_of_script (script.Line number) = BadLine number
-
--- where the folder refused a call
-abbrev pub ended_of_folder : FolderRefusal → Ended
-ended_of_folder folder.Memory = Memory
-ended_of_folder folder.Fault = Disk
+abbrev pub outcome_of_script : ScriptRefusal → Outcome
+outcome_of_script script.Memory = Ended Memory
+outcome_of_script (script.Line number) = BadLine number

@@ -10,7 +10,7 @@ use hr_edges::{Failed, Source};
 use std::alloc::{AllocError, Global};
 
 /// The most bytes that a script may have.
-pub const MOST: usize = 1 << 25;
+pub const MOST: usize = 1 << 26;
 
 /// The bytes that are asked for at once.
 const PIECE: usize = 65_536;
@@ -76,10 +76,10 @@ fn read_more<S: Source>(
 ) -> Result<bool, InputRefusal>
     requires { 0 < length buffer.old }
     ensures more { IfOk result (λ more. more ≡ true → vec_len bytes.old < vec_len bytes.new) }
-    ensures short { vec_len bytes.old ≤ 2 ^ 25 → OnOk result (vec_len bytes.new ≤ 2 ^ 25) }
+    ensures short { vec_len bytes.old ≤ 2 ^ 26 → OnOk result (vec_len bytes.new ≤ 2 ^ 26) }
     ensures read { (all : List ℕ) → WasRead (S.left input.old) all bytes.old.items → OnOk result (WasRead (S.left input.new) all bytes.new.items) }
     ensures done { (all : List ℕ) → WasRead (S.left input.old) all bytes.old.items → IfOk result (λ more. more ≡ false → all ≡ bytes.new.items) }
-    ensures too_long { (all : List ℕ) → WasRead (S.left input.old) all bytes.old.items → IsErrOf result InputRefusal.TooLong → ReadsTooMuch (2 ^ 25) all (S.left input.new) }
+    ensures too_long { (all : List ℕ) → WasRead (S.left input.old) all bytes.old.items → IsErrOf result InputRefusal.TooLong → ReadsTooMuch (2 ^ 26) all (S.left input.new) }
     ensures fault { IsErrOf result InputRefusal.Failed → Rose (S.count input.old) (S.count input.new) }
     ensures kept { S.count input.old ≤ S.count input.new }
 {
@@ -101,10 +101,10 @@ fn read_through<S: Source>(
     buffer: &mut [u8],
 ) -> Result<Vec<u8>, InputRefusal>
     requires { 0 < length buffer.old }
-    ensures short { IfOk result (λ bytes. vec_len bytes ≤ 2 ^ 25) }
+    ensures short { IfOk result (λ bytes. vec_len bytes ≤ 2 ^ 26) }
     ensures found { (all : List ℕ) → S.left input.old ≡ Some all → IfOk result (λ bytes. bytes.items ≡ all) }
     ensures ended { (all : List ℕ) → S.left input.old ≡ Some all → OnOk result (S.left input.new ≡ Some []) }
-    ensures too_long { (all : List ℕ) → S.left input.old ≡ Some all → IsErrOf result InputRefusal.TooLong → ReadsTooMuch (2 ^ 25) all (S.left input.new) }
+    ensures too_long { (all : List ℕ) → S.left input.old ≡ Some all → IsErrOf result InputRefusal.TooLong → ReadsTooMuch (2 ^ 26) all (S.left input.new) }
     ensures fault { IsErrOf result InputRefusal.Failed → Rose (S.count input.old) (S.count input.new) }
     ensures kept { S.count input.old ≤ S.count input.new }
 {
@@ -132,10 +132,10 @@ fn new_buffer(alloc: Global) -> Result<Vec<u8>, InputRefusal>
 
 /// Reads all bytes of a source, of which there may be `MOST`.
 pub fn read_all<S: Source>(alloc: Global, input: &mut S) -> Result<Vec<u8>, InputRefusal>
-    ensures short { IfOk result (λ bytes. vec_len bytes ≤ 2 ^ 25) }
+    ensures short { IfOk result (λ bytes. vec_len bytes ≤ 2 ^ 26) }
     ensures found { (all : List ℕ) → S.left input.old ≡ Some all → IfOk result (λ bytes. bytes.items ≡ all) }
     ensures ended { (all : List ℕ) → S.left input.old ≡ Some all → OnOk result (S.left input.new ≡ Some []) }
-    ensures too_long { (all : List ℕ) → S.left input.old ≡ Some all → IsErrOf result InputRefusal.TooLong → ReadsTooMuch (2 ^ 25) all (S.left input.new) }
+    ensures too_long { (all : List ℕ) → S.left input.old ≡ Some all → IsErrOf result InputRefusal.TooLong → ReadsTooMuch (2 ^ 26) all (S.left input.new) }
     ensures fault { IsErrOf result InputRefusal.Failed → Rose (S.count input.old) (S.count input.new) }
     ensures kept { S.count input.old ≤ S.count input.new }
 {

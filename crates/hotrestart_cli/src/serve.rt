@@ -1,54 +1,88 @@
 //! The top call.
 
-ghost use Rattle.std.specs.Prelude.{◌≡◌, ◌≤◌, ◌↔◌, ◌⊎◌, true, false, None, IsSome};
+ghost use Rattle.std.specs.Prelude.{◌≡◌, ◌≤◌, ◌⊎◌, ℕ, true, None, IsSome};
+ghost use Rattle.hr_base.specs.declared.limits.Limits.{Limits};
 ghost use Rattle.hr_base.specs.declared.name.ChunkName.{ChunkName};
 ghost use Rattle.hr_base.specs.Counts.{Rose};
-ghost use Rattle.hotrestart_cli.specs.declared.ended.Ended.{Ended};
-ghost use Rattle.hotrestart_cli.specs.Words.{is_play};
+ghost use Rattle.hr_base.specs.LimitRanges.{IsLimits};
 ghost use Rattle.hr_edges.specs.Edges.{IsRead};
 ghost use Rattle.dir_files.specs.PortStates.{IsCalm};
+ghost use Rattle.command_words.specs.declared.read.Command.{Command};
+ghost use Rattle.command_words.specs.Words.{IsCommand, texts_of};
+ghost use Rattle.store_drill.specs.declared.ended.Ended.{Ended};
+ghost use Rattle.store_drill.specs.Sessions.{IsFirstHeld};
+ghost use Rattle.hotrestart_cli.specs.declared.outcome.Outcome.{Outcome};
+ghost use Rattle.hotrestart_cli.specs.Outcome.{IsTellable, IsEarly, CanRefuse, CanRefuseFolder, CanRefuseWords};
 ghost use Rattle.hotrestart_cli.specs.Scripts.{IsFit, IsUnfit};
-ghost use Rattle.hotrestart_cli.specs.Folders.{Because, IsFirstHeld, Served, WasDone, WasRefused, WasNotBuilt};
-ghost use Rattle.hotrestart_cli.specs.Outcome.{IsTellable, IsEarly, CanRefuse, CanRefuseFolder};
+ghost use Rattle.hotrestart_cli.specs.Served.{Because, CameTo, IsNoCommand, Means, Served, WasDone, WasNotBuilt, WasRefused, world};
 
-use crate::ended::Ended;
-use crate::play::play;
+use crate::outcome::Outcome;
 use crate::script::read_lines;
 use crate::telling::tell;
-use crate::words::is_play_command;
+use command_words::{Command, read_words};
 use dir_files::Folder;
+use hr_base::Limits;
 use hr_edges::{Sink, Source};
 use std::alloc::Global;
 
-/// Runs a session up to its last line.
+/// Reads a script and plays it.
+fn play_script<F: Folder, S: Source, K: Sink>(
+    alloc: Global,
+    limits: &Limits,
+    folder: &mut F,
+    input: &mut S,
+    out: &mut K,
+) -> Outcome
+    requires limits { IsLimits limits.now }
+    requires calm { F.tells ≡ true → IsCalm (F.port folder.old) }
+    ensures calm { F.tells ≡ true → IsCalm (F.port folder.new) }
+    ensures came { CameTo F.tells (Command.Play limits.now) (world ⟦<F as Folder>⟧ ⟦<S as Source>⟧ ⟦<K as Sink>⟧ folder.old input.old out.old)
+        (world ⟦<F as Folder>⟧ ⟦<S as Source>⟧ ⟦<K as Sink>⟧ folder.new input.new out.new) result }
+    ensures tellable { IsTellable result }
+    ensures untouched { IsEarly result → folder.new ≡ folder.old }
+    ensures spared { IsUnfit limits.now.partitions (S.left input.old) → folder.new ≡ folder.old }
+    ensures words { result ≡ Outcome.Words → ⊥ }
+    ensures input { result ≡ Outcome.Input → Rose (S.count input.old) (S.count input.new) }
+    ensures sink { result ≡ Outcome.Ended Ended.Sink → Rose (K.count out.old) (K.count out.new) }
+    ensures disk { result ≡ Outcome.Ended Ended.Disk → Rose (F.count folder.old) (F.count folder.new) }
+    ensures not_built { F.tells ≡ true → (name : ChunkName) → result ≡ Outcome.Ended (Ended.NotBuilt name) → IsFirstHeld (F.port folder.old) name }
+    ensures spent { (next : ℕ) → result ≡ Outcome.Ended (Ended.Spent next) → ⊥ }
+    ensures sink_kept { K.count out.old ≤ K.count out.new }
+{
+    match read_lines(alloc, input, limits.partitions) {
+        Ok(script) => Outcome::Ended(store_drill::play(alloc, script.lines(), limits, folder, out)),
+        Err(outcome) => outcome,
+    }
+}
+
+/// Does what the words say, up to the last line.
 fn run<F: Folder, S: Source, K: Sink>(
     alloc: Global,
     words: &[String],
     folder: &mut F,
     input: &mut S,
     out: &mut K,
-) -> Ended
+) -> Outcome
     requires calm { F.tells ≡ true → IsCalm (F.port folder.old) }
     ensures calm { F.tells ≡ true → IsCalm (F.port folder.new) }
-    ensures because { Because F.tells (is_play words.now) (S.left input.old) (S.left input.new) (F.port folder.old) (F.port folder.new) (K.taken out.old) (K.taken out.new) result }
-    ensures ended { result ≡ Ended.Whole → IsRead (S.left input.old) (S.left input.new) }
+    ensures because { Because F.tells (texts_of words.now) (world ⟦<F as Folder>⟧ ⟦<S as Source>⟧ ⟦<K as Sink>⟧ folder.old input.old out.old)
+        (world ⟦<F as Folder>⟧ ⟦<S as Source>⟧ ⟦<K as Sink>⟧ folder.new input.new out.new) result }
     ensures tellable { IsTellable result }
-    ensures idle { is_play words.now ≡ false → (folder.new ≡ folder.old) × (input.new ≡ input.old) × (out.new ≡ out.old) }
+    ensures words { result ≡ Outcome.Words → IsNoCommand (texts_of words.now) × (folder.new ≡ folder.old) × (input.new ≡ input.old) × (out.new ≡ out.old) }
+    ensures no_command { IsNoCommand (texts_of words.now)
+        → ((result ≡ Outcome.Words) ⊎ (result ≡ Outcome.Ended Ended.Memory)) × (folder.new ≡ folder.old) × (input.new ≡ input.old) }
     ensures untouched { IsEarly result → folder.new ≡ folder.old }
-    ensures spared { IsUnfit (S.left input.old) → folder.new ≡ folder.old }
-    ensures words { result ≡ Ended.Words ↔ (is_play words.now ≡ false) }
-    ensures input { result ≡ Ended.Input → Rose (S.count input.old) (S.count input.new) }
-    ensures sink { result ≡ Ended.Sink → Rose (K.count out.old) (K.count out.new) }
-    ensures disk { result ≡ Ended.Disk → Rose (F.count folder.old) (F.count folder.new) }
-    ensures not_built { F.tells ≡ true → (name : ChunkName) → result ≡ Ended.NotBuilt name → IsFirstHeld (F.port folder.old) name }
+    ensures spared { (limits : Limits) → IsCommand (texts_of words.now) (Command.Play limits) → IsUnfit limits.partitions (S.left input.old) → folder.new ≡ folder.old }
+    ensures input { result ≡ Outcome.Input → Rose (S.count input.old) (S.count input.new) }
+    ensures sink { result ≡ Outcome.Ended Ended.Sink → Rose (K.count out.old) (K.count out.new) }
+    ensures disk { result ≡ Outcome.Ended Ended.Disk → Rose (F.count folder.old) (F.count folder.new) }
+    ensures not_built { F.tells ≡ true → (name : ChunkName) → result ≡ Outcome.Ended (Ended.NotBuilt name) → IsFirstHeld (F.port folder.old) name }
+    ensures spent { (next : ℕ) → result ≡ Outcome.Ended (Ended.Spent next) → ⊥ }
     ensures sink_kept { K.count out.old ≤ K.count out.new }
 {
-    if !is_play_command(words) {
-        return Ended::Words;
-    }
-    match read_lines(alloc, input) {
-        Ok(script) => play(alloc, script.lines(), folder, out),
-        Err(ended) => ended,
+    match read_words(alloc, words) {
+        Ok(Command::Play(limits)) => play_script(alloc, &limits, folder, input, out),
+        Err(refusal) => Outcome::from(refusal),
     }
 }
 
@@ -65,24 +99,29 @@ pub fn serve<F: Folder, S: Source, K: Sink>(
     // Nothing is lent and nothing is foreign, for every status.
     ensures calm { F.tells ≡ true → IsCalm (F.port folder.new) }
     // What was replied, what was refused and why, what every crash leaves, and what is read where the disk did not fail.
-    ensures served { Served F.tells (is_play words.now) (S.left input.old) (S.left input.new) (F.port folder.old) (F.port folder.new) (F.count folder.old) (F.count folder.new) (K.taken out.old) (K.taken out.new) result }
+    ensures served { Served F.tells (texts_of words.now) (world ⟦<F as Folder>⟧ ⟦<S as Source>⟧ ⟦<K as Sink>⟧ folder.old input.old out.old)
+        (world ⟦<F as Folder>⟧ ⟦<S as Source>⟧ ⟦<K as Sink>⟧ folder.new input.new out.new) result }
     // A script that can be played, a folder without chunk files and no fault: all is done, unless memory is wanting.
-    ensures complete { F.tells ≡ true → is_play words.now ≡ true → IsFit (S.left input.old) → ((name : ChunkName) → (F.port folder.old).held name ≡ None)
+    ensures complete { F.tells ≡ true → (limits : Limits) → IsCommand (texts_of words.now) (Command.Play limits) → IsFit limits.partitions (S.left input.old)
+        → ((name : ChunkName) → (F.port folder.old).held name ≡ None)
         → (Rose (S.count input.old) (S.count input.new) → ⊥) → (Rose (K.count out.old) (K.count out.new) → ⊥) → (Rose (F.count folder.old) (F.count folder.new) → ⊥)
         → (result ≡ 0) ⊎ (result ≡ 7) }
 
     // Status 0: the source was read to its end, the whole script was done, and its replies, all of them and nothing
     // else, were taken.
-    ensures whole { result ≡ 0 → WasDone (S.left input.old) (K.taken out.old) (K.taken out.new) }
+    ensures whole { result ≡ 0 → Means (texts_of words.now) (λ command. WasDone command (S.left input.old) (K.taken out.old) (K.taken out.new)) }
     // Statuses 0, 5 and 6: the source was read to its end; status 2 says itself how far it was read.
     ensures ended { (result ≡ 0) ⊎ (result ≡ 5) ⊎ (result ≡ 6) → IsRead (S.left input.old) (S.left input.new) }
-    // Status 1: exactly where the words are not those of the command. Nothing was touched.
-    ensures words { result ≡ 1 ↔ (is_play words.now ≡ false) }
+    // Status 1: only where the words mean no command. Nothing was touched.
+    ensures words { result ≡ 1 → IsNoCommand (texts_of words.now) }
     ensures idle { result ≡ 1 → (folder.new ≡ folder.old) × (input.new ≡ input.old) × (out.new ≡ out.old) }
+    // Where they mean none, the status is 1, unless memory was wanting; then the sink alone may have changed.
+    ensures no_command { IsNoCommand (texts_of words.now) → CanRefuseWords result × (folder.new ≡ folder.old) × (input.new ≡ input.old) }
     // Status 2: more was read than a script may have, or a line is the first at fault; that is told, and nothing
     // else. For such a script the folder stays as it was, whatever the status.
-    ensures refused { result ≡ 2 → WasRefused (S.left input.old) (S.left input.new) (K.taken out.old) (K.taken out.new) }
-    ensures unfit { is_play words.now ≡ true → IsUnfit (S.left input.old) → CanRefuse result × (folder.new ≡ folder.old) }
+    ensures refused { result ≡ 2 → Means (texts_of words.now) (λ command. WasRefused command (S.left input.old) (S.left input.new) (K.taken out.old) (K.taken out.new)) }
+    ensures unfit { (limits : Limits) → IsCommand (texts_of words.now) (Command.Play limits) → IsUnfit limits.partitions (S.left input.old)
+        → CanRefuse result × (folder.new ≡ folder.old) }
     // Statuses 1, 2 and 3: the folder stays as it was.
     ensures untouched { (result ≡ 1) ⊎ (result ≡ 2) ⊎ (result ≡ 3) → folder.new ≡ folder.old }
     // Statuses 3, 4 and 5: only where the count of faults of the source, the sink or the folder rose.
@@ -92,8 +131,11 @@ pub fn serve<F: Folder, S: Source, K: Sink>(
     // Status 6: the folder held a chunk file, and the first of them by name is told, and nothing else. Such a folder is
     // never played over.
     ensures not_built { F.tells ≡ true → result ≡ 6 → WasNotBuilt (F.port folder.old) (K.taken out.old) (K.taken out.new) }
-    ensures built { F.tells ≡ true → is_play words.now ≡ true → IsFit (S.left input.old) → (name : ChunkName) → IsSome ((F.port folder.old).held name) → CanRefuseFolder result }
+    ensures built { F.tells ≡ true → (limits : Limits) → IsCommand (texts_of words.now) (Command.Play limits) → IsFit limits.partitions (S.left input.old)
+        → (name : ChunkName) → IsSome ((F.port folder.old).held name) → CanRefuseFolder result }
+    // Status 8 never comes: over a folder without chunk files a script has fewer lines than there are numbers.
+    ensures spent { result ≡ 8 → ⊥ }
 {
-    let ended = run(alloc, words, folder, input, out);
-    tell(alloc, ended, out)
+    let outcome = run(alloc, words, folder, input, out);
+    tell(alloc, outcome, out)
 }

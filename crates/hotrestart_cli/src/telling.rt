@@ -3,31 +3,34 @@
 ghost use Rattle.std.specs.Prelude.{◌≡◌, ◌≤◌, ◌⊎◌, ◌++◌, [], IfOk, IsOk, OnErr, OnOk, decimal, codes};
 ghost use Rattle.hr_base.specs.Names.{IsChunkName, name_text};
 ghost use Rattle.hr_base.specs.Counts.{Rose};
-ghost use Rattle.hotrestart_cli.specs.declared.ended.Ended.{Ended};
 ghost use Rattle.hr_edges.specs.Edges.{Takes, TakesFront};
+ghost use Rattle.store_drill.specs.declared.ended.Ended.{Ended};
+ghost use Rattle.hotrestart_cli.specs.declared.outcome.Outcome.{Outcome};
 ghost use Rattle.hotrestart_cli.specs.Outcome.{Tells, IsTellable, last_line, status_of};
 
-use crate::ended::Ended;
+use crate::outcome::Outcome;
 use crate::output::write_all;
 use hr_base::print_name;
 use hr_edges::Sink;
 use itoa::Buffer;
 use std::alloc::{AllocError, Global};
+use store_drill::Ended;
 
-/// The status that tells an end.
-fn status(ended: Ended) -> u8
-    ensures { result ≡ status_of ended }
+/// The status that tells an outcome.
+fn status(outcome: Outcome) -> u8
+    ensures { result ≡ status_of outcome }
 {
-    match ended {
-        Ended::Whole => 0,
-        Ended::Words => 1,
-        Ended::TooLong => 2,
-        Ended::BadLine { number: _ } => 2,
-        Ended::Input => 3,
-        Ended::Sink => 4,
-        Ended::Disk => 5,
-        Ended::NotBuilt { name: _ } => 6,
-        Ended::Memory => 7,
+    match outcome {
+        Outcome::Ended(Ended::Whole) => 0,
+        Outcome::Words => 1,
+        Outcome::TooLong => 2,
+        Outcome::BadLine { number: _ } => 2,
+        Outcome::Input => 3,
+        Outcome::Ended(Ended::Sink) => 4,
+        Outcome::Ended(Ended::Disk) => 5,
+        Outcome::Ended(Ended::NotBuilt { name: _ }) => 6,
+        Outcome::Ended(Ended::Memory) => 7,
+        Outcome::Ended(Ended::Spent { next: _ }) => 8,
     }
 }
 
@@ -41,44 +44,52 @@ fn line_with(alloc: Global, front: &[u8], part: &[u8]) -> Result<Vec<u8>, AllocE
     Ok(line)
 }
 
-/// The line that is written last.
-fn text(alloc: Global, ended: Ended) -> Result<Vec<u8>, AllocError>
-    requires { IsTellable ended }
-    ensures line { IfOk result (λ line. line.items ≡ last_line ended) }
-    ensures nothing { last_line ended ≡ [] → IsOk result }
+/// A line of a text with a number.
+fn line_with_number(alloc: Global, front: &[u8], number: u64) -> Result<Vec<u8>, AllocError>
+    ensures { IfOk result (λ line. line.items ≡ front.now ++ decimal number ++ codes "\n") }
 {
-    match ended {
-        Ended::Whole => Ok(Vec::new(alloc)),
-        Ended::Words => Ok(Vec::new(alloc)),
-        Ended::TooLong => Vec::from_slice(alloc, b"refused too long\n"),
-        Ended::BadLine { number } => {
-            let mut buffer = Buffer::new();
-            line_with(alloc, b"refused line ", buffer.format(number).as_bytes())
+    let mut buffer = Buffer::new();
+    line_with(alloc, front, buffer.format(number).as_bytes())
+}
+
+/// The line that is written last.
+fn text(alloc: Global, outcome: Outcome) -> Result<Vec<u8>, AllocError>
+    requires { IsTellable outcome }
+    ensures line { IfOk result (λ line. line.items ≡ last_line outcome) }
+    ensures nothing { last_line outcome ≡ [] → IsOk result }
+{
+    match outcome {
+        Outcome::Ended(Ended::Whole) => Ok(Vec::new(alloc)),
+        Outcome::Words => Ok(Vec::new(alloc)),
+        Outcome::TooLong => Vec::from_slice(alloc, b"refused too long\n"),
+        Outcome::BadLine { number } => line_with_number(alloc, b"refused line ", number),
+        Outcome::Input => Vec::from_slice(alloc, b"refused input\n"),
+        Outcome::Ended(Ended::Sink) => Ok(Vec::new(alloc)),
+        Outcome::Ended(Ended::Disk) => Vec::from_slice(alloc, b"refused disk\n"),
+        Outcome::Ended(Ended::NotBuilt { name }) => {
+            line_with(alloc, b"refused not-built ", &print_name(name))
         }
-        Ended::Input => Vec::from_slice(alloc, b"refused input\n"),
-        Ended::Sink => Ok(Vec::new(alloc)),
-        Ended::Disk => Vec::from_slice(alloc, b"refused disk\n"),
-        Ended::NotBuilt { name } => line_with(alloc, b"refused not-built ", &print_name(name)),
-        Ended::Memory => Vec::from_slice(alloc, b"refused memory\n"),
+        Outcome::Ended(Ended::Memory) => Vec::from_slice(alloc, b"refused memory\n"),
+        Outcome::Ended(Ended::Spent { next }) => line_with_number(alloc, b"refused spent ", next),
     }
 }
 
 /// Writes the last line, and answers the status.
-pub fn tell<K: Sink>(alloc: Global, ended: Ended, out: &mut K) -> u8
-    requires { IsTellable ended }
-    ensures told { Tells ended result (K.taken out.old) (K.taken out.new) }
-    ensures silent { last_line ended ≡ [] → result ≡ status_of ended }
-    ensures untouched { last_line ended ≡ [] → out.new ≡ out.old }
-    ensures sink { result ≡ 4 → (ended ≡ Ended.Sink) ⊎ Rose (K.count out.old) (K.count out.new) }
+pub fn tell<K: Sink>(alloc: Global, outcome: Outcome, out: &mut K) -> u8
+    requires { IsTellable outcome }
+    ensures told { Tells outcome result (K.taken out.old) (K.taken out.new) }
+    ensures silent { last_line outcome ≡ [] → result ≡ status_of outcome }
+    ensures untouched { last_line outcome ≡ [] → out.new ≡ out.old }
+    ensures sink { result ≡ 4 → (outcome ≡ Outcome.Ended Ended.Sink) ⊎ Rose (K.count out.old) (K.count out.new) }
     ensures kept { K.count out.old ≤ K.count out.new }
 {
-    match text(alloc, ended) {
+    match text(alloc, outcome) {
         Ok(line) => {
             if line.is_empty() {
-                return status(ended);
+                return status(outcome);
             }
             match write_all(out, line.as_slice()) {
-                Ok(()) => status(ended),
+                Ok(()) => status(outcome),
                 Err(_) => 4,
             }
         }

@@ -1,31 +1,29 @@
-use Rattle.std.proofs.Common.{◌≡◌, true, subst, sym, List}
-use Rattle.script_text.specs.declared.line.Line.{Line}
-use Rattle.hotrestart_cli.specs.Words.{is_play}
-use Rattle.hotrestart_cli.specs.Scripts.{IsScriptOf}
-use Rattle.hotrestart_cli.proofs.FolderLaws.{because_played, tellable_played, words_played, input_played}
-use Rattle.hotrestart_cli.proofs.Refusals.{unfit_script}
+use Rattle.std.proofs.Common.{◌≡◌, ℕ, List, Result, Err, IsErrOf, refl, inl, subst, sym, ◌∙◌}
+use Rattle.command_words.specs.declared.parse.WordsRefusal.{WordsRefusal}
+use Rattle.command_words.specs.declared.parse.WordsRefusal.TheVariants as refusal
+use Rattle.command_words.specs.declared.read.Command.{Command}
+use Rattle.command_words.specs.declared.read.Command.TheVariants.{Play}
+use Rattle.command_words.specs.Words.{texts_of}
+use Rattle.command_words.proofs.Words.{one_meaning}
+use Rattle.hotrestart_cli.specs.declared.outcome.Outcome.{Outcome}
+use Rattle.hotrestart_cli.specs.Ends.{outcome_of_words}
+use Rattle.hotrestart_cli.specs.Served.{IsNoCommand, IsRefusedWords}
 use Rattle.hotrestart_cli.proofs.serve.run.Goals as goal
 
-pub returns-in-Ok-clause-because : goal.returns-in-Ok-clause-because
-returns-in-Ok-clause-because g c =
-    let y : is_play c.args.words.now ≡ true = cc in
-    because_played _ _ _ _ _ _ _ _ _ y c.play.ensures.only (record {
-      lines = c.lines.result.now;
-      script = subst (λ (ls : List Line). IsScriptOf (g.S.Source.left c.args.input.now) ls) (sym c.lines.ensures) c.in-Ok.ensures.found;
-      read = c.in-Ok.ensures.ended;
-      ran = c.play.ensures.ran;
-    })
+pub returns-in-Ok-Play-clause-spared : goal.returns-in-Ok-Play-clause-spared
+returns-in-Ok-Play-clause-spared g c limits meaning unfit =
+    let same : c.in-Ok-Play.field-0 ≡ Play limits = one_meaning _ _ _ c.in-Ok-Play.ensures.found meaning in
+    c.play_script.ensures.spared (rw same unfit)
 
-pub returns-in-Ok-clause-tellable : goal.returns-in-Ok-clause-tellable
-returns-in-Ok-clause-tellable g c = tellable_played _ c.play.ensures.only
+-- the refusal is told as it is
+refused : (words : List (List ℕ)) (result : Result Command WordsRefusal) (r : WordsRefusal) → result ≡ Err r → (IsErrOf result refusal.Words → IsNoCommand words) → IsRefusedWords words (outcome_of_words r)
+refused words result refusal.Memory is none = tt
+refused words result refusal.Words is none = none (subst (λ (x : Result Command WordsRefusal). IsErrOf x refusal.Words) (sym is) refl)
 
-pub returns-in-Ok-clause-words : goal.returns-in-Ok-clause-words
-returns-in-Ok-clause-words g c =
-    let y : is_play c.args.words.now ≡ true = cc in
-    words_played _ _ c.play.ensures.only y
+pub returns-in-Err-clause-because : goal.returns-in-Err-clause-because
+returns-in-Err-clause-because g c =
+    inl (subst (λ (o : Outcome). IsRefusedWords (texts_of c.args.words.now) o) (sym c.from.ensures) (refused (texts_of c.args.words.now) _ _ c.in-Err.is c.read_words.ensures.refused), refl)
 
-pub returns-in-Ok-clause-input : goal.returns-in-Ok-clause-input
-returns-in-Ok-clause-input g c e = absurd (input_played _ c.play.ensures.only e)
-
-pub returns-in-Ok-clause-spared : goal.returns-in-Ok-clause-spared
-returns-in-Ok-clause-spared g c u = absurd (unfit_script _ _ u c.in-Ok.ensures.found)
+pub returns-in-Err-clause-words : goal.returns-in-Err-clause-words
+returns-in-Err-clause-words g c e =
+    (subst (λ (o : Outcome). IsRefusedWords (texts_of c.args.words.now) o) (sym c.from.ensures ∙ e) (refused (texts_of c.args.words.now) _ _ c.in-Err.is c.read_words.ensures.refused), refl, refl, refl)

@@ -8,7 +8,7 @@ use Rattle.hotrestart_cli.proofs.telling.tell.Goals as goal
 
 pub returns-in-Ok-write_all-clause-told : goal.returns-in-Ok-write_all-clause-told
 returns-in-Ok-write_all-clause-told g c =
-    subst (λ (n : ℕ). Tells c.args.ended n (g.K.Sink.taken c.args.out.now) (g.K.Sink.taken c.write_all.new.out)) (sym c.status-in-Ok-write_all.ensures)
+    subst (λ (n : ℕ). Tells c.args.outcome n (g.K.Sink.taken c.args.out.now) (g.K.Sink.taken c.write_all.new.out)) (sym c.status-in-Ok-write_all.ensures)
     (told (subst (λ (t : List ℕ). Takes (g.K.Sink.taken c.args.out.now) (g.K.Sink.taken c.write_all.new.out) t) (c.as_slice.ensures.value ∙ c.in-Ok.ensures.line) c.in-Ok-write_all.ensures.ok))
 
 pub returns-in-Ok-clause-told : goal.returns-in-Ok-clause-told
@@ -25,6 +25,6 @@ pub returns-then-is_empty-clause-told : goal.returns-then-is_empty-clause-told
 returns-then-is_empty-clause-told g c =
     let none : vec_len c.in-Ok.line ≡ 0 = eqb-true (vec_len c.in-Ok.line) 0 (sym c.is_empty.ensures ∙ c.if-is_empty.true) in
     let empty : length c.in-Ok.line.items ≡ 0 = omega (arith, none, c.in-Ok.line.ok) in
-    let e : last_line c.args.ended ≡ [] = sym c.in-Ok.ensures.line ∙ nil_from_length c.in-Ok.line.items empty in
-    subst (λ (n : ℕ). Tells c.args.ended n (g.K.Sink.taken c.args.out.now) (g.K.Sink.taken c.args.out.now)) (sym c.status.ensures)
+    let e : last_line c.args.outcome ≡ [] = sym c.in-Ok.ensures.line ∙ nil_from_length c.in-Ok.line.items empty in
+    subst (λ (n : ℕ). Tells c.args.outcome n (g.K.Sink.taken c.args.out.now) (g.K.Sink.taken c.args.out.now)) (sym c.status.ensures)
     (told (subst (λ (t : List ℕ). Takes (g.K.Sink.taken c.args.out.now) (g.K.Sink.taken c.args.out.now) t) (sym e) (Takes-nothing (g.K.Sink.taken c.args.out.now))))

@@ -1,0 +1,160 @@
+-- What a status says of the outcome that it tells.
+use Rattle.std.proofs.Common.{◌≡◌, ◌⊎◌, ℕ, ◌≤◌, List, [], Option, refl, arith, inl, inr, subst, ◌∙◌}
+use Rattle.hr_base.specs.declared.name.ChunkName.{ChunkName}
+use Rattle.hr_edges.specs.Edges.{Takes}
+use Rattle.store_drill.specs.declared.ended.Ended.TheVariants.{Whole, Sink, Disk, NotBuilt, Memory, Spent}
+use Rattle.hotrestart_cli.specs.declared.outcome.Outcome.{Outcome}
+use Rattle.hotrestart_cli.specs.declared.outcome.Outcome.TheVariants.{Words, TooLong, BadLine, Input, Ended}
+use Rattle.hotrestart_cli.specs.Outcome.{CanRefuse, CanRefuseFolder, CanRefuseWords, IsEarly, status_of, last_line, Tells, told, no_memory, not_taken, nothing_taken}
+
+-- a status other than 4 and 7 is the outcome's own, and its last line was taken
+pub told_of : (outcome : Outcome) (status : ℕ) (mid now : Option (List ℕ)) → Tells outcome status mid now → (status ≡ 4 → ⊥) → (status ≡ 7 → ⊥)
+    → (status_of outcome ≡ status) × Takes mid now (last_line outcome)
+told_of outcome _ mid now (told t) four seven = (refl, t)
+told_of outcome _ mid now (no_memory t) four seven = absurd (seven refl)
+told_of outcome _ mid now (not_taken t) four seven = absurd (four refl)
+told_of outcome _ mid now (nothing_taken t) four seven = absurd (four refl)
+
+-- where one of several statuses is the outcome's own, they are that one, 4 or 7
+pub told_among : (outcome : Outcome) (status : ℕ) (mid now : Option (List ℕ)) → Tells outcome status mid now → (status ≡ status_of outcome) ⊎ (status ≡ 4) ⊎ (status ≡ 7)
+told_among outcome _ mid now (told t) = inl refl
+told_among outcome _ mid now (no_memory t) = inr (inr refl)
+told_among outcome _ mid now (not_taken t) = inr (inl refl)
+told_among outcome _ mid now (nothing_taken t) = inr (inl refl)
+
+-- the last line of an outcome is that of one that is the same
+same_line : (outcome other : Outcome) (mid now : Option (List ℕ)) → outcome ≡ other → Takes mid now (last_line outcome) → Takes mid now (last_line other)
+same_line outcome other mid now e taken = subst (λ (x : Outcome). Takes mid now (last_line x)) e taken
+
+-- ---- one status
+
+whole_of_status : (outcome : Outcome) → status_of outcome ≡ 0 → outcome ≡ Ended Whole
+whole_of_status (Ended Whole) e = refl
+whole_of_status (Ended other) e = cc
+whole_of_status other e = cc
+
+-- status 0 tells a whole session and nothing else, and that nothing was written after it
+pub whole_told : (outcome : Outcome) (status : ℕ) (mid now : Option (List ℕ)) → Tells outcome status mid now → status ≡ 0 → (outcome ≡ Ended Whole) × Takes mid now []
+whole_told outcome status mid now t e =
+    let own = told_of outcome status mid now t (λ f. cc) (λ f. cc) in
+    let whole = whole_of_status outcome (own.0 ∙ e) in
+    (whole, same_line outcome (Ended Whole) mid now whole own.1)
+
+words_of_status : (outcome : Outcome) → status_of outcome ≡ 1 → outcome ≡ Words
+words_of_status Words e = refl
+words_of_status (Ended Whole) e = cc
+words_of_status (Ended other) e = cc
+words_of_status other e = cc
+
+-- status 1 tells wrong words and nothing else
+pub words_told : (outcome : Outcome) (status : ℕ) (mid now : Option (List ℕ)) → Tells outcome status mid now → status ≡ 1 → outcome ≡ Words
+words_told outcome status mid now t e = words_of_status outcome ((told_of outcome status mid now t (λ f. cc) (λ f. cc)).0 ∙ e)
+
+input_of_status : (outcome : Outcome) → status_of outcome ≡ 3 → outcome ≡ Input
+input_of_status Input e = refl
+input_of_status (Ended Whole) e = cc
+input_of_status (Ended other) e = cc
+input_of_status other e = cc
+
+pub input_told : (outcome : Outcome) (status : ℕ) (mid now : Option (List ℕ)) → Tells outcome status mid now → status ≡ 3 → outcome ≡ Input
+input_told outcome status mid now t e = input_of_status outcome ((told_of outcome status mid now t (λ f. cc) (λ f. cc)).0 ∙ e)
+
+disk_of_status : (outcome : Outcome) → status_of outcome ≡ 5 → outcome ≡ Ended Disk
+disk_of_status (Ended Disk) e = refl
+disk_of_status (Ended other) e = cc
+disk_of_status other e = cc
+
+pub disk_told : (outcome : Outcome) (status : ℕ) (mid now : Option (List ℕ)) → Tells outcome status mid now → status ≡ 5 → outcome ≡ Ended Disk
+disk_told outcome status mid now t e = disk_of_status outcome ((told_of outcome status mid now t (λ f. cc) (λ f. cc)).0 ∙ e)
+
+not_built_of_status : (outcome : Outcome) → status_of outcome ≡ 6 → (name : ChunkName) × (outcome ≡ Ended (NotBuilt name))
+not_built_of_status (Ended (NotBuilt name)) e = (name, refl)
+not_built_of_status (Ended other) e = cc
+not_built_of_status other e = cc
+
+-- status 6 tells a chunk file, and that its name was taken
+pub not_built_told : (outcome : Outcome) (status : ℕ) (mid now : Option (List ℕ)) → Tells outcome status mid now → status ≡ 6
+    → (name : ChunkName) × (outcome ≡ Ended (NotBuilt name)) × Takes mid now (last_line (Ended (NotBuilt name)))
+not_built_told outcome status mid now t e =
+    let own = told_of outcome status mid now t (λ f. cc) (λ f. cc) in
+    let held = not_built_of_status outcome (own.0 ∙ e) in
+    (held.0, held.1, same_line outcome (Ended (NotBuilt held.0)) mid now held.1 own.1)
+
+spent_of_status : (outcome : Outcome) → status_of outcome ≡ 8 → (next : ℕ) × (outcome ≡ Ended (Spent next))
+spent_of_status (Ended (Spent next)) e = (next, refl)
+spent_of_status (Ended other) e = cc
+spent_of_status other e = cc
+
+pub spent_told : (outcome : Outcome) (status : ℕ) (mid now : Option (List ℕ)) → Tells outcome status mid now → status ≡ 8 → (next : ℕ) × (outcome ≡ Ended (Spent next))
+spent_told outcome status mid now t e = spent_of_status outcome ((told_of outcome status mid now t (λ f. cc) (λ f. cc)).0 ∙ e)
+
+-- ---- several statuses
+
+early_of_status : (outcome : Outcome) (n : ℕ) → status_of outcome ≡ n → 1 ≤ n → n ≤ 3 → IsEarly outcome
+early_of_status (Ended Whole) n e low high = absurd (omega arith)
+early_of_status (Ended other) n e low high = absurd (omega arith)
+early_of_status other n e low high = tt
+
+-- statuses 1, 2 and 3 tell that the folder is as it was
+pub early_told : (outcome : Outcome) (status : ℕ) (mid now : Option (List ℕ)) → Tells outcome status mid now → (status ≡ 1) ⊎ (status ≡ 2) ⊎ (status ≡ 3) → IsEarly outcome
+early_told outcome status mid now t h =
+    let low : 1 ≤ status = elim h [ inl a ↦ omega arith | inr r ↦ elim r [ inl b ↦ omega arith | inr c ↦ omega arith ] ] in
+    let high : status ≤ 3 = elim h [ inl a ↦ omega arith | inr r ↦ elim r [ inl b ↦ omega arith | inr c ↦ omega arith ] ] in
+    early_of_status outcome status (told_of outcome status mid now t (λ f. omega arith) (λ f. omega arith)).0 low high
+
+done_of_status : (outcome : Outcome) → (status_of outcome ≡ 1 → ⊥) → (status_of outcome ≡ 2 → ⊥) → (status_of outcome ≡ 3 → ⊥) → (status_of outcome ≡ 4 → ⊥) → (status_of outcome ≡ 5 → ⊥)
+    → (status_of outcome ≡ 6 → ⊥) → (status_of outcome ≡ 8 → ⊥) → (status_of outcome ≡ 0) ⊎ (status_of outcome ≡ 7)
+done_of_status (Ended Whole) one two three four five six eight = inl refl
+done_of_status Words one two three four five six eight = absurd (one refl)
+done_of_status TooLong one two three four five six eight = absurd (two refl)
+done_of_status (BadLine number) one two three four five six eight = absurd (two refl)
+done_of_status Input one two three four five six eight = absurd (three refl)
+done_of_status (Ended Sink) one two three four five six eight = absurd (four refl)
+done_of_status (Ended Disk) one two three four five six eight = absurd (five refl)
+done_of_status (Ended (NotBuilt name)) one two three four five six eight = absurd (six refl)
+done_of_status (Ended Memory) one two three four five six eight = inr refl
+done_of_status (Ended (Spent next)) one two three four five six eight = absurd (eight refl)
+
+-- what is refused for none of the seven causes is done, or lacked memory
+pub all_done : (outcome : Outcome) (status : ℕ) (mid now : Option (List ℕ)) → Tells outcome status mid now
+    → (status ≡ 1 → ⊥) → (status ≡ 2 → ⊥) → (status ≡ 3 → ⊥) → (status ≡ 4 → ⊥) → (status ≡ 5 → ⊥) → (status ≡ 6 → ⊥) → (status ≡ 8 → ⊥) → (status ≡ 0) ⊎ (status ≡ 7)
+all_done outcome _ mid now (told t) one two three four five six eight = done_of_status outcome one two three four five six eight
+all_done outcome _ mid now (no_memory t) one two three four five six eight = inr refl
+all_done outcome _ mid now (not_taken t) one two three four five six eight = absurd (four refl)
+all_done outcome _ mid now (nothing_taken t) one two three four five six eight = absurd (four refl)
+
+held_of_status : (outcome : Outcome) → (status_of outcome ≡ 0 → ⊥) → (status_of outcome ≡ 1 → ⊥) → (status_of outcome ≡ 2 → ⊥) → (status_of outcome ≡ 8 → ⊥) → CanRefuseFolder (status_of outcome)
+held_of_status (Ended Whole) zero one two eight = absurd (zero refl)
+held_of_status Words zero one two eight = absurd (one refl)
+held_of_status TooLong zero one two eight = absurd (two refl)
+held_of_status (BadLine number) zero one two eight = absurd (two refl)
+held_of_status Input zero one two eight = inl refl
+held_of_status (Ended Sink) zero one two eight = inr (inl refl)
+held_of_status (Ended Disk) zero one two eight = inr (inr (inl refl))
+held_of_status (Ended (NotBuilt name)) zero one two eight = inr (inr (inr (inl refl)))
+held_of_status (Ended Memory) zero one two eight = inr (inr (inr (inr refl)))
+held_of_status (Ended (Spent next)) zero one two eight = absurd (eight refl)
+
+pub held_told : (outcome : Outcome) (status : ℕ) (mid now : Option (List ℕ)) → Tells outcome status mid now
+    → (status ≡ 0 → ⊥) → (status ≡ 1 → ⊥) → (status ≡ 2 → ⊥) → (status ≡ 8 → ⊥) → CanRefuseFolder status
+held_told outcome _ mid now (told t) zero one two eight = held_of_status outcome zero one two eight
+held_told outcome _ mid now (no_memory t) zero one two eight = inr (inr (inr (inr refl)))
+held_told outcome _ mid now (not_taken t) zero one two eight = inr (inl refl)
+held_told outcome _ mid now (nothing_taken t) zero one two eight = inr (inl refl)
+
+-- a script that has to be refused
+pub unfit_of : (outcome : Outcome) (status : ℕ) (mid now : Option (List ℕ)) → Tells outcome status mid now → CanRefuse (status_of outcome) → CanRefuse status
+unfit_of outcome _ mid now (told t) h = h
+unfit_of outcome _ mid now (no_memory t) h = inr (inr (inr refl))
+unfit_of outcome _ mid now (not_taken t) h = inr (inr (inl refl))
+unfit_of outcome _ mid now (nothing_taken t) h = inr (inr (inl refl))
+
+-- words that mean no command
+pub wordless_told : (outcome : Outcome) (status : ℕ) (mid now : Option (List ℕ)) → Tells outcome status mid now → (outcome ≡ Words) ⊎ (outcome ≡ Ended Memory) → CanRefuseWords status
+wordless_told outcome status mid now t h =
+    elim (told_among outcome status mid now t) [
+      | inl own ↦ elim h [ inl words ↦ inl (own ∙ of words) | inr memory ↦ inr (inr (own ∙ of memory)) ]
+      | inr other ↦ inr other
+    ] where
+      of : {x : Outcome} → outcome ≡ x → status_of outcome ≡ status_of x
+      of e = cc

@@ -1,0 +1,122 @@
+-- What the program did.
+use Rattle.std.specs.Prelude.{◌≡◌, ◌⊎◌, ℕ, Bool, true, List, Option, ⊤}
+use Rattle.std.specs.FinMap.{empty}
+use Rattle.hr_base.specs.Counts.{Rose}
+use Rattle.hr_base.specs.declared.name.ChunkName.{ChunkName}
+use Rattle.hr_edges.specs.Edges.{IsRead, Takes}
+use Rattle.hr_edges.specs.declared.sink.Sink.{Ghosts as SinkGhosts}
+use Rattle.hr_edges.specs.declared.source.Source.{Ghosts as SourceGhosts}
+use Rattle.dir_files.specs.Ports.{Port}
+use Rattle.dir_files.specs.PortStates.{IsCalm}
+use Rattle.dir_files.specs.declared.folder.Folder.{Ghosts as FolderGhosts}
+use Rattle.script_text.specs.declared.line.Line.{Line}
+use Rattle.script_text.specs.Replies.{replies}
+use Rattle.command_words.specs.Words.{IsCommand}
+use Rattle.command_words.specs.declared.read.Command.{Command}
+use Rattle.command_words.specs.declared.read.Command.TheVariants.{Play}
+use Rattle.store_drill.specs.Sessions.{IsFirstHeld, Outside, Ran, outside}
+use Rattle.store_drill.specs.declared.ended.Ended.{Ended as SessionEnd}
+use Rattle.store_drill.specs.declared.ended.Ended.TheVariants.{Disk, NotBuilt, Memory}
+use Rattle.hotrestart_cli.specs.declared.outcome.Outcome.{Outcome}
+use Rattle.hotrestart_cli.specs.declared.outcome.Outcome.TheVariants.{Words, TooLong, BadLine, Ended}
+use Rattle.hotrestart_cli.specs.Outcome.{Tells, last_line}
+use Rattle.hotrestart_cli.specs.Scripts.{IsBadAt, IsRefusedScript, IsScriptOf, IsTooLong}
+
+-- ---- the world of the program
+
+-- A folder with its count of faults, what a sink has taken, and the bytes that a source has left, where they tell it.
+pub record World : Type 0 where
+  pub outside : Outside
+  pub left : Option (List ℕ)
+
+abbrev pub world : {F File S K : Type 0} → FolderGhosts F File → SourceGhosts S → SinkGhosts K → F → S → K → World
+world folder source sink f s k = record { outside = outside folder sink f k; left = source.left s }
+
+-- the world where the sink has taken this
+abbrev pub with_taken : World → Option (List ℕ) → World
+with_taken w taken = record w { outside = record w.outside { taken = taken } }
+
+-- ---- what the words mean
+
+-- the words mean no command
+abbrev pub IsNoCommand : List (List ℕ) → Type 0
+IsNoCommand words = (command : Command) → IsCommand words command → ⊥
+
+-- the words mean a command for which this holds
+pub record Means (words : List (List ℕ)) (Holds : Command → Type 0) : Type 0 where
+  pub command : Command
+  pub meaning : IsCommand words command
+  pub holds : Holds command
+
+-- why no command was read
+abbrev pub IsRefusedWords : List (List ℕ) → Outcome → Type 0
+IsRefusedWords words Words = IsNoCommand words
+IsRefusedWords words (Ended Memory) = ⊤
+IsRefusedWords words outcome = ⊥
+
+-- ---- what a command came to
+
+-- The script was refused before its session: the folder and the sink are as they were.
+pub record NotPlayed (partitions : ℕ) (before mid : World) (outcome : Outcome) : Type 0 where
+  pub why : IsRefusedScript partitions before.left mid.left outcome
+  pub same : mid.outside ≡ before.outside
+
+-- The source was read to its end, it was the script of some lines, and the session ran over these.
+pub record RanScript (tells : Bool) (partitions : ℕ) (before mid : World) (ended : SessionEnd) : Type 0 where
+  pub lines : List Line
+  pub script : IsScriptOf partitions before.left lines
+  pub read : IsRead before.left mid.left
+  pub ran : Ran tells partitions lines before.outside mid.outside ended
+
+-- so an outcome of a session came about
+abbrev pub RanTo : Bool → ℕ → World → World → Outcome → Type 0
+RanTo tells partitions before mid (Ended ended) = RanScript tells partitions before mid ended
+RanTo tells partitions before mid outcome = ⊥
+
+-- what a command came to before the last line
+abbrev pub CameTo : Bool → Command → World → World → Outcome → Type 0
+CameTo tells (Play limits) before mid outcome = NotPlayed limits.partitions before mid outcome ⊎ RanTo tells limits.partitions before mid outcome
+
+-- Why the program came to this, and what it left before the last line: no command was read, and all is as it was; or
+-- one was, and came to this.
+abbrev pub Because : Bool → List (List ℕ) → World → World → Outcome → Type 0
+Because tells words before mid outcome =
+    (IsRefusedWords words outcome × (mid ≡ before)) ⊎ Means words (λ command. CameTo tells command before mid outcome)
+
+-- What the program did.
+pub record Served (tells : Bool) (words : List (List ℕ)) (before after : World) (status : ℕ) : Type 0 where
+  -- what it came to
+  pub outcome : Outcome
+  -- what the sink had taken before the last line, which changed nothing else
+  pub mid : Option (List ℕ)
+  -- why it came to this, what was replied until then, and what every crash leaves
+  pub because : Because tells words before (with_taken after mid) outcome
+  -- the disk refused a call only where the folder's count of faults rose
+  pub disk : outcome ≡ Ended Disk → Rose before.outside.faults after.outside.faults
+  -- no handle is out, and none came back that was given out elsewhere
+  pub calm : tells ≡ true → IsCalm after.outside.port
+  -- how the status and the last line tell the outcome
+  pub told : Tells outcome status mid after.outside.taken
+
+-- ---- what a status says
+
+-- All lines of the script were done, and their replies were taken: those of a plain finite map for each partition.
+pub record WasPlayed (partitions : ℕ) (left before now : Option (List ℕ)) : Type 0 where
+  pub lines : List Line
+  pub script : IsScriptOf partitions left lines
+  pub text : Takes before now (replies lines (λ _. empty))
+
+-- the command was done to its end
+abbrev pub WasDone : Command → Option (List ℕ) → Option (List ℕ) → Option (List ℕ) → Type 0
+WasDone (Play limits) left before now = WasPlayed limits.partitions left before now
+
+-- The command's script was refused, and told so: as too long, or by the number of its first bad line.
+abbrev pub WasRefused : Command → Option (List ℕ) → Option (List ℕ) → Option (List ℕ) → Option (List ℕ) → Type 0
+WasRefused (Play limits) left rest before now =
+    (IsTooLong left rest × Takes before now (last_line TooLong)) ⊎ ((number : ℕ) × IsBadAt limits.partitions left number × IsRead left rest × Takes before now (last_line (BadLine number)))
+
+-- The folder held a chunk file, and the first one by name was told.
+pub record WasNotBuilt (port : Port) (before now : Option (List ℕ)) : Type 0 where
+  pub name : ChunkName
+  pub first : IsFirstHeld port name
+  pub text : Takes before now (last_line (Ended (NotBuilt name)))

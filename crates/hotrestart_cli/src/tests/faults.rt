@@ -1,0 +1,169 @@
+//! One short script with a fault of the folder, the source or the sink.
+
+use super::recording::Call;
+use super::{FORKED, NEVER, ROOT, V1, plan_from, run_over};
+use hr_edges::{MemSink, MemSource};
+use std::alloc::Global;
+use std::process::Abort;
+use std::test::Fail;
+
+const SCRIPT: &[u8] = b"0 put 5 k1 v1\n0 sync\n0 get 5 k1\n";
+
+/// What is stored of the script.
+const RECORD: &[u8] = b"\0\0\0\0\0\0\0\x01\0\0\0\0\0\0\0\x05\0\0\0\x02\0\0\0\x02k1v1";
+
+/// A run of the script with a fault: from which call on the folder fails, and the first port that it gives; the first
+/// call at which the source or the sink fails; the most bytes that the sink takes in a write, and those that it has
+/// room for. What is stored is so many first bytes of its record.
+#[derive(Clone, Copy)]
+struct Faulty {
+    name: &'static str,
+    folder: u64,
+    port: u64,
+    source: u64,
+    sink: u64,
+    most: usize,
+    room: usize,
+    status: u8,
+    printed: &'static [u8],
+    stored: Option<usize>,
+}
+
+const SOUND: Faulty = Faulty {
+    name: "one byte a read and seven a write",
+    folder: NEVER,
+    port: NEVER,
+    source: NEVER,
+    sink: NEVER,
+    most: 7,
+    room: 100,
+    status: 0,
+    printed: b"0 none\n0 synced\n0 is v1\n",
+    stored: Some(28),
+};
+
+const FAULTY: [Faulty; 11] = [
+    SOUND,
+    // How finely the bytes come and go changes nothing.
+    Faulty {
+        name: "one byte a read and a write",
+        most: 1,
+        ..SOUND
+    },
+    // The first read fails.
+    Faulty {
+        name: "the first read fails",
+        source: 1,
+        status: 3,
+        printed: b"refused input\n",
+        stored: None,
+        ..SOUND
+    },
+    Faulty {
+        name: "the second write fails",
+        sink: 2,
+        status: 4,
+        printed: b"0 none\n",
+        ..SOUND
+    },
+    // The sink takes nothing of the first reply, though its put was done.
+    Faulty {
+        name: "the sink takes nothing of the first reply",
+        room: 0,
+        status: 4,
+        printed: b"",
+        ..SOUND
+    },
+    Faulty {
+        name: "the sink has room for three bytes",
+        room: 3,
+        status: 4,
+        printed: b"0 n",
+        ..SOUND
+    },
+    Faulty {
+        name: "the folder fails",
+        folder: 1,
+        status: 5,
+        printed: b"refused disk\n",
+        stored: None,
+        ..SOUND
+    },
+    Faulty {
+        name: "the port fails from its first call",
+        port: 1,
+        status: 5,
+        printed: b"refused disk\n",
+        stored: None,
+        ..SOUND
+    },
+    Faulty {
+        name: "the port fails in its append",
+        port: 2,
+        status: 5,
+        printed: b"refused disk\n",
+        stored: Some(14),
+        ..SOUND
+    },
+    Faulty {
+        name: "the port fails in its directory sync",
+        port: 4,
+        status: 5,
+        printed: b"0 none\nrefused disk\n",
+        ..SOUND
+    },
+    // The disk fails, and then the sink before the last line is whole.
+    Faulty {
+        name: "the port fails, and then the sink",
+        port: 4,
+        room: 10,
+        status: 4,
+        printed: b"0 none\nref",
+        ..SOUND
+    },
+];
+
+/// Runs the script with a fault, one byte a read, and compares.
+fn check_faulty(rt: &impl Abort, alloc: Global, run: &Faulty) -> Result<(), Fail> {
+    let plans = vec![in alloc; plan_from(alloc, run.folder), plan_from(alloc, run.port)]?;
+    let input = MemSource::in_steps(SCRIPT.to_vec(alloc)?, [run.source].to_vec(alloc)?, 1);
+    let out = MemSink::in_steps(alloc, run.room, [run.sink].to_vec(alloc)?, run.most)?;
+    let left = run_over(rt, alloc, "DIR play", plans, input, out)?;
+    left.expect(rt, run.name, run.status, run.printed);
+    let stored = left.bytes(V1);
+    let name = run.name;
+    assert_eq!(rt; stored.map(|bytes| bytes.len()), run.stored, "{name}");
+    assert!(rt; RECORD.starts_with(stored.unwrap_or(b"")), "{name}");
+    Ok(())
+}
+
+#[test]
+fn faults_are_told_by_the_table(rt: HostRuntime) -> Result<(), Fail> {
+    for run in &FAULTY {
+        check_faulty(&rt, rt.alloc(), run)?;
+    }
+    Ok(())
+}
+
+/// The port that writes fails at its directory sync: the put before was answered and its record is whole, but the sync
+/// is not answered, since a crash may still take the file's name.
+#[test]
+fn a_failed_directory_sync_is_no_sync(rt: HostRuntime) -> Result<(), Fail> {
+    let alloc = rt.alloc();
+    let plans = vec![in alloc; plan_from(alloc, NEVER), plan_from(alloc, 4)]?;
+    let input = MemSource::new(b"0 put 5 k1 v1\n0 sync\n".to_vec(alloc)?, Vec::new(alloc));
+    let out = MemSink::new(alloc, 100, Vec::new(alloc))?;
+    let left = run_over(&rt, alloc, "DIR play", plans, input, out)?;
+    let name = "a failed directory sync";
+    left.expect(&rt, name, 5, b"0 none\nrefused disk\n");
+    assert_eq!(&rt; left.bytes(V1), Some(RECORD));
+    left.expect_calls(
+        &rt,
+        name,
+        &[Call::SyncNames, Call::Names],
+        &[Call::Create, Call::Append, Call::SyncFile, Call::SyncNames],
+    );
+    assert_eq!(&rt; left.folder.calls(ROOT).len(), 2);
+    assert_eq!(&rt; left.folder.calls(FORKED).len(), 4);
+    Ok(())
+}
