@@ -205,7 +205,7 @@ module _ (partitions : ℕ) (writers : List Standing) (accounts : ℕ → Accoun
       part_survives p (all_files (files_of s.stock) beginning.found) (λ name. None) port.held port.gone (accounts p)
       (own_files p s is) (λ name of. given_back.gone name)
       (subst (λ (q : ℕ). PartSurvives q (all_files (files_of s.stock) beginning.found) (λ name. None) (accounts p)) (numbers p s is)
-          (stand_survives (written s beginning.found) (start_of beginning) (accounts p) (each p s is).facts))
+      (stand_survives (written s beginning.found) (start_of beginning) (accounts p) (each p s is).facts))
 
   restarts_at : EachIs IsWhole writers → (p : ℕ) → p < partitions → (o : Option Standing) → slice_get writers p ≡ o → RestartsAs (read_of port) p (accounts p).maps
   unfolding nothing
@@ -217,7 +217,7 @@ module _ (partitions : ℕ) (writers : List Standing) (accounts : ℕ → Accoun
       part_restarts p (λ name. option_map (λ file. file.bytes) (all_files (files_of s.stock) beginning.found name)) (read_of port) (accounts p).maps
       (λ name of. ap (option_map (λ (file : FileState). file.bytes)) (own_files p s is name of))
       (subst (λ (q : ℕ). RestartsAs (λ name. option_map (λ file. file.bytes) (all_files (files_of s.stock) beginning.found name)) q (accounts p).maps) (numbers p s is)
-          (stand_exact (written s beginning.found) (start_of beginning) (accounts p) (each p s is).facts (whole p s is)))
+      (stand_exact (written s beginning.found) (start_of beginning) (accounts p) (each p s is).facts (whole p s is)))
 
   -- each file is of some partition
   known : (name : ChunkName) (file : FileState) → port.held name ≡ Some file → name.partition.0 < partitions

@@ -81,7 +81,7 @@ module _ (tells : Bool) (step : Step) (line : Line) (old new : List Standing) (t
   numbers_stay each =
       subst (λ (writers : List Standing). EachFits HasNumber writers (λ q. q)) (sym plays.changed)
       (each_kept HasNumber old (λ q. q) (partition_of line) plays.after each
-          (ap (λ (partition : Partition). partition.0) plays.plays.partition ∙ each (partition_of line) plays.before plays.was))
+      (ap (λ (partition : Partition). partition.0) plays.plays.partition ∙ each (partition_of line) plays.before plays.was))
 
   -- the account of its partition changed
   pub accounts_go : (a : ℕ → Account) (b : Account) → EachFits StandsAt old a → (Stands plays.before beginning (a (partition_of line)) → Stands plays.after beginning b)
@@ -101,13 +101,13 @@ module _ (tells : Bool) (step : Step) (line : Line) (old new : List Standing) (t
   maps_go m each on =
       subst (λ (writers : List Standing). EachFits HasMaps writers (maps_after_one line m)) (sym plays.changed)
       (each_changed HasMaps old m (partition_of line) plays.after (maps_after_line line (m (partition_of line))) each
-          (on ∙ ap (maps_after_line line) (each (partition_of line) plays.before plays.was)))
+      (on ∙ ap (maps_after_line line) (each (partition_of line) plays.before plays.was)))
 
   pub all_go : (most : ℕ) → EachIs (Goes most) old → GoesOn plays.before plays.after → EachIs (Goes (1 + most)) new
   all_go most each on =
       subst (λ (writers : List Standing). EachIs (Goes (1 + most)) writers) (sym plays.changed)
       (each_is_changed (Goes (1 + most)) old (partition_of line) plays.after (λ q s is. goes_more most s (each q s is))
-          (goes_on most plays.before plays.after (each (partition_of line) plays.before plays.was) on))
+      (goes_on most plays.before plays.after (each (partition_of line) plays.before plays.was) on))
 
   -- the disk refused it
   pub faults_rose : Rose plays.before.faults plays.after.faults → 1 ≤ faults_of new
@@ -146,7 +146,7 @@ module _ (lines : List Line) (i : ℕ) (line : Line) (within : i < length lines)
     accounts_answered on y a each =
         subst (λ (accounts : ℕ → Account). EachFits StandsAt new accounts) (sym (accounts_more a))
         (accounts_go tells step line mid new text plays (accounts_after_lines (take i lines) a) (account_after_line line (accounts_after_lines (take i lines) a (partition_of line)))
-            (so.account y a each) (on y (accounts_after_lines (take i lines) a (partition_of line))))
+        (so.account y a each) (on y (accounts_after_lines (take i lines) a (partition_of line))))
 
     reply_is : (m : ℕ → Entries) → EachFits HasMaps old m → text ≡ text_after line plays.before.maps
         → replies (take i lines) m ++ text ≡ replies (take (i + 1) lines) m
@@ -229,7 +229,7 @@ module _ (lines : List Line) (i : ℕ) (line : Line) (within : i < length lines)
       account = λ y a each.
           subst (λ (o : Option Line). EachFits StandsAt new (accounts_after_refused o (accounts_after_lines (take i lines) a))) (sym (slice_get_at lines i line within is))
           (accounts_go tells step line mid new text plays (accounts_after_lines (take i lines) a) (account_after_refused line (accounts_after_lines (take i lines) a (partition_of line)))
-              (so.account y a each) (account y (accounts_after_lines (take i lines) a (partition_of line))));
+          (so.account y a each) (account y (accounts_after_lines (take i lines) a (partition_of line))));
     }
 
 -- ---- how a session ends

@@ -60,9 +60,9 @@ pub plays_answered : (tells : Bool) (line : Line) (s t : Standing) (text : List 
     → (tells ≡ true → (b : Beginning) (a : Account) → Stands s b a → Stands t b (account_after_line line a)) → Plays tells step line s t text
 plays_answered tells line s t text Answered only told maps goes partition account = record { replies = (told refl, maps, goes); partition = partition; account = account }
 plays_answered tells line s t text NoReply only told maps goes partition account = record { replies = (maps, goes); partition = partition; account = account }
-plays_answered tells line s t text NoMemory only told maps goes partition account = absurd (elim only [ | inl e ↦ cc | inr e ↦ cc ])
-plays_answered tells line s t text DiskFailed only told maps goes partition account = absurd (elim only [ | inl e ↦ cc | inr e ↦ cc ])
-plays_answered tells line s t text (Spent next) only told maps goes partition account = absurd (elim only [ | inl e ↦ cc | inr e ↦ cc ])
+plays_answered tells line s t text NoMemory only told maps goes partition account = absurd (elim only [ inl e ↦ cc | inr e ↦ cc ])
+plays_answered tells line s t text DiskFailed only told maps goes partition account = absurd (elim only [ inl e ↦ cc | inr e ↦ cc ])
+plays_answered tells line s t text (Spent next) only told maps goes partition account = absurd (elim only [ inl e ↦ cc | inr e ↦ cc ])
 
 module _ (s t : Standing) (r : Record) where
   pub done_maps : Done s t r → t.maps ≡ maps_after (command_of r) s.maps

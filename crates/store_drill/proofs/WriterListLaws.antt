@@ -28,7 +28,7 @@ get_pushed : {A : Type 0} (xs : List A) (x y : A) (i : ℕ) → slice_get (xs ++
 get_pushed [] x y zero is = inr (refl, cc)
 get_pushed [] x y (suc i) is = cc
 get_pushed (z ∷ xs) x y zero is = inl is
-get_pushed (z ∷ xs) x y (suc i) is = elim (get_pushed xs x y i is) [ | inl h ↦ inl h | inr h ↦ inr (ap suc h.0, h.1) ]
+get_pushed (z ∷ xs) x y (suc i) is = elim (get_pushed xs x y i is) [ inl h ↦ inl h | inr h ↦ inr (ap suc h.0, h.1) ]
 
 -- ---- one writer changes
 

@@ -177,11 +177,7 @@ fn place(line: &Line) -> usize
 }
 
 /// Answers a line, and leaves the writers of all other partitions alone; its reply replaces the text.
-pub(crate) fn answer<F: Folder>(
-    writers: &mut [Writer<F>],
-    line: &Line,
-    text: &mut Vec<u8>,
-) -> Step
+pub(crate) fn answer<F: Folder>(writers: &mut [Writer<F>], line: &Line, text: &mut Vec<u8>) -> Step
     requires valid { IsLine Play (length writers.old) line.now }
     requires running { EachIs IsRunning (standings writers.old) }
     ensures { PlaysAmong F.tells result line.now (standings writers.old) (standings writers.new) text.new.items }

@@ -56,12 +56,7 @@ impl Deed {
     }
 
     /// Changes the maps, and writes what is replied behind the partition.
-    fn apply(
-        &self,
-        alloc: Global,
-        maps: &mut Maps,
-        replies: &mut Vec<u8>,
-    ) -> Result<(), Fail> {
+    fn apply(&self, alloc: Global, maps: &mut Maps, replies: &mut Vec<u8>) -> Result<(), Fail> {
         let key = (self.map, self.key.to_vec(alloc)?);
         match self.verb {
             Verb::Put => {
@@ -238,13 +233,7 @@ impl Account {
 
     /// Whether a key of a partition may have this value after a crash: that of the last answered sync, or the one after
     /// one of its own changes since then.
-    pub fn allows(
-        &self,
-        lines: &[Line],
-        partition: u8,
-        key: &Key,
-        found: Option<&[u8]>,
-    ) -> bool {
+    pub fn allows(&self, lines: &[Line], partition: u8, key: &Key, found: Option<&[u8]>) -> bool {
         let Some(part) = self.parts.get(partition as usize) else {
             return false;
         };
@@ -356,13 +345,7 @@ fn left_of(kept: &Kept, bytes: usize, pick: Pick) -> usize {
     let rest = bytes.saturating_sub(kept.front);
     match pick {
         Pick::Most => bytes,
-        Pick::Least => {
-            if kept.is_named {
-                kept.front
-            } else {
-                0
-            }
-        }
+        Pick::Least => { if kept.is_named { kept.front } else { 0 } }
         Pick::Mix(seed) => {
             let draw = seed.saturating_add(kept.name.number.0);
             if !kept.is_named && draw % 2 == 0 {

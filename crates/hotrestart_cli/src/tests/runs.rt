@@ -269,7 +269,11 @@ fn a_full_chunk_is_followed_by_another(rt: HostRuntime) -> Result<(), Fail> {
         let words = "DIR play --partitions 1 --value-limit 4096";
         let left = run(&rt, alloc, words, script.as_slice())?;
         left.expect(&rt, name, 0, b"0 none\n0 none\n0 synced\n");
-        assert_eq!(&rt; left.bytes(V1).map(|bytes| bytes.len()), Some(first), "{name}");
+        assert_eq!(&rt;
+            left.bytes(V1).map(|bytes| bytes.len()),
+            Some(first),
+            "{name}"
+        );
         assert_eq!(&rt; left.bytes(V2).map(|bytes| bytes.len()), Some(26), "{name}");
         assert_eq!(&rt; left.folder.kept().len(), 2, "{name}");
     }
@@ -282,7 +286,11 @@ fn sixty_four_partitions(rt: HostRuntime) -> Result<(), Fail> {
     let alloc = rt.alloc();
     let mut script = String::new(alloc);
     let mut printed = String::new(alloc);
-    for (line, reply) in [("put 1 k v", "none"), ("sync", "synced"), ("get 1 k", "is v")] {
+    for (line, reply) in [
+        ("put 1 k v", "none"),
+        ("sync", "synced"),
+        ("get 1 k", "is v"),
+    ] {
         for p in 0..64 {
             writeln!(script, "{p} {line}")?;
             writeln!(printed, "{p} {reply}")?;

@@ -150,7 +150,10 @@ impl Session {
             }
             for key in keys.keys() {
                 let found = maps.get(key).map(|value| value.as_slice());
-                assert!(rt; account.allows(self.lines.as_slice(), p, key, found), "{pick:?}");
+                assert!(rt;
+                    account.allows(self.lines.as_slice(), p, key, found),
+                    "{pick:?}"
+                );
             }
         }
         Ok(())

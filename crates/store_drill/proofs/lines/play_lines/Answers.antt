@@ -40,7 +40,7 @@ returns-in-DiskFailed-clause-disk g c =
 pub returns-in-Spent-clause-played : goal.returns-in-Spent-clause-played
 returns-in-Spent-clause-played g c =
     absurd (never_spent g.F.Folder.tells c.in-Spent.next c.args.lines.now c.loop-line.line-index c.line-item.result (standings c.loop-line.writers) (standings c.answer.new.writers) c.answer.new.text.items
-        c.loop-line.invariant.so_far.goes c.loop-line-test.true c.requires.few c.in-Spent.ensures)
+    c.loop-line.invariant.so_far.goes c.loop-line-test.true c.requires.few c.in-Spent.ensures)
 
 pub returns-in-Spent-clause-unspent : goal.returns-in-Spent-clause-unspent
 returns-in-Spent-clause-unspent g c = λ next is.

@@ -28,9 +28,9 @@ returns-in-Ok-clause-left g c =
     let back : take c.open_writers.new.writers.len (played ++ drop (length played) items) ≡ played = written_back c.open_writers.new.writers.len items played same (search rules) in
     subst (λ writers. Left g.F.Folder.tells c.args.limits.now.partitions c.args.lines.now (standings writers) (g.K.Sink.taken c.args.out.now) (g.K.Sink.taken c.play_lines.new.out) c.play_lines.result) (sym back)
     (left_played _ _ _ (standings begun) (standings played) _ _ _
-        (subst (λ writers. EachFits (Begins g.F.Folder.tells) (standings writers) (λ p. p)) (sym c.as_mut_slice.ensures.value) c.in-Ok.ensures.begun)
-        (length-map played (λ writer. standing writer) ∙ same ∙ c.in-Ok.ensures.all)
-        c.play_lines.ensures.played)
+    (subst (λ writers. EachFits (Begins g.F.Folder.tells) (standings writers) (λ p. p)) (sym c.as_mut_slice.ensures.value) c.in-Ok.ensures.begun)
+    (length-map played (λ writer. standing writer) ∙ same ∙ c.in-Ok.ensures.all)
+    c.play_lines.ensures.played)
 
 pub returns-in-Err-clause-left : goal.returns-in-Err-clause-left
 returns-in-Err-clause-left g c =

@@ -37,6 +37,6 @@ returns-in-Err g c =
     let line = Clear c.args.p c.args.prefix in
     subst (λ (step : Step). Plays g.F.Folder.tells step line s (standing c.clear.new.self) c.args.text.now.items) (sym c.refused.ensures)
     (plays_refused _ g.F.Folder.tells line s (standing c.clear.new.self) c.args.text.now.items (clear_record s.next c.args.prefix) c.in-Err.refusal
-        (c.in-Err.ensures.written (more_unless (count_under c.args.prefix s.maps) (λ none. let h = (c.in-Err.ensures.empty none c.requires.running).0 in cc)))
-        c.in-Err.ensures.disk.memory c.in-Err.ensures.disk.cause (λ at is. (c.in-Err.ensures.halted at).0 is) c.requires.running
-        (λ next is. is_spent s Clears (record_length Clears 0 0) next ((c.in-Err.ensures.spent next).0 is).2) (λ a. refl) c.in-Err.ensures.account)
+    (c.in-Err.ensures.written (more_unless (count_under c.args.prefix s.maps) (λ none. let h = (c.in-Err.ensures.empty none c.requires.running).0 in cc)))
+    c.in-Err.ensures.disk.memory c.in-Err.ensures.disk.cause (λ at is. (c.in-Err.ensures.halted at).0 is) c.requires.running
+    (λ next is. is_spent s Clears (record_length Clears 0 0) next ((c.in-Err.ensures.spent next).0 is).2) (λ a. refl) c.in-Err.ensures.account)

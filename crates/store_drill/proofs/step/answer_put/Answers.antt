@@ -15,5 +15,5 @@ returns-in-Err g c =
     let line = Put c.args.p c.args.prefix c.args.key.now c.args.value.now in
     subst (λ (step : Step). Plays g.F.Folder.tells step line s (standing c.put.new.self) c.args.text.now.items) (sym c.refused.ensures)
     (plays_refused _ g.F.Folder.tells line s (standing c.put.new.self) c.args.text.now.items (put_record s.next c.args.prefix c.args.key.now c.args.value.now) c.in-Err.refusal
-        c.in-Err.ensures.written c.in-Err.ensures.disk.memory c.in-Err.ensures.disk.cause (λ at is. (c.in-Err.ensures.halted at).0 is) c.requires.running
-        (λ next is. is_spent s Value (record_length Value (length c.args.key.now) (length c.args.value.now)) next ((c.in-Err.ensures.spent next).0 is).1) (λ a. refl) c.in-Err.ensures.account)
+    c.in-Err.ensures.written c.in-Err.ensures.disk.memory c.in-Err.ensures.disk.cause (λ at is. (c.in-Err.ensures.halted at).0 is) c.requires.running
+    (λ next is. is_spent s Value (record_length Value (length c.args.key.now) (length c.args.value.now)) next ((c.in-Err.ensures.spent next).0 is).1) (λ a. refl) c.in-Err.ensures.account)

@@ -32,6 +32,6 @@ returns-in-Err g c =
     let line = Remove c.args.p c.args.prefix c.args.key.now in
     subst (λ (step : Step). Plays g.F.Folder.tells step line s (standing c.remove.new.self) c.args.text.now.items) (sym c.refused.ensures)
     (plays_refused _ g.F.Folder.tells line s (standing c.remove.new.self) c.args.text.now.items (remove_record s.next c.args.prefix c.args.key.now) c.in-Err.refusal
-        (c.in-Err.ensures.written (some_unless (get s.maps (key_at c.args.prefix c.args.key.now)) (λ none. let h = (c.in-Err.ensures.absent none c.requires.running).0 in cc)))
-        c.in-Err.ensures.disk.memory c.in-Err.ensures.disk.cause (λ at is. (c.in-Err.ensures.halted at).0 is) c.requires.running
-        (λ next is. is_spent s Tomb (record_length Tomb (length c.args.key.now) 0) next ((c.in-Err.ensures.spent next).0 is).2) (λ a. refl) c.in-Err.ensures.account)
+    (c.in-Err.ensures.written (some_unless (get s.maps (key_at c.args.prefix c.args.key.now)) (λ none. let h = (c.in-Err.ensures.absent none c.requires.running).0 in cc)))
+    c.in-Err.ensures.disk.memory c.in-Err.ensures.disk.cause (λ at is. (c.in-Err.ensures.halted at).0 is) c.requires.running
+    (λ next is. is_spent s Tomb (record_length Tomb (length c.args.key.now) 0) next ((c.in-Err.ensures.spent next).0 is).2) (λ a. refl) c.in-Err.ensures.account)

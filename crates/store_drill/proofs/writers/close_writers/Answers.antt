@@ -13,7 +13,7 @@ pub close_writer-requires-clause-apart : goal.close_writer-requires-clause-apart
 close_writer-requires-clause-apart g c =
     let rest : List Standing = standings c.pop.new.self.items in
     let split : standings c.loop-writer.writers.items ≡ rest ++ standing c.in-Some.writer ∷ [] =
-        ap (λ writers. standings writers) c.in-Some.ensures.items ∙ map-append (λ writer. standing writer) c.pop.new.self.items (c.in-Some.writer ∷ []) in
+    ap (λ writers. standings writers) c.in-Some.ensures.items ∙ map-append (λ writer. standing writer) c.pop.new.self.items (c.in-Some.writer ∷ []) in
     closing_apart _ (standings c.args.writers.items) rest (standing c.in-Some.writer) _ _ _
     (subst (λ (writers : List Standing). Closing g.F.Folder.tells (standings c.args.writers.items) writers (g.F.Folder.port c.loop-writer.folder) (g.F.Folder.count c.args.folder.now) (g.F.Folder.count c.loop-writer.folder)) split c.loop-writer.invariant)
     c.requires.numbers c.requires.own
@@ -22,7 +22,7 @@ pub loop-writer-preserved : goal.loop-writer-preserved
 loop-writer-preserved g c =
     let rest : List Standing = standings c.pop.new.self.items in
     let split : standings c.loop-writer.writers.items ≡ rest ++ standing c.in-Some.writer ∷ [] =
-        ap (λ writers. standings writers) c.in-Some.ensures.items ∙ map-append (λ writer. standing writer) c.pop.new.self.items (c.in-Some.writer ∷ []) in
+    ap (λ writers. standings writers) c.in-Some.ensures.items ∙ map-append (λ writer. standing writer) c.pop.new.self.items (c.in-Some.writer ∷ []) in
     closing_more _ (standings c.args.writers.items) rest (standing c.in-Some.writer) _ _ _
     (subst (λ (writers : List Standing). Closing g.F.Folder.tells (standings c.args.writers.items) writers (g.F.Folder.port c.loop-writer.folder) (g.F.Folder.count c.args.folder.now) (g.F.Folder.count c.loop-writer.folder)) split c.loop-writer.invariant)
     c.requires.numbers c.requires.own _ _ c.close_writer.ensures.given_back c.close_writer.ensures.held c.close_writer.ensures.count c.close_writer.ensures.kept

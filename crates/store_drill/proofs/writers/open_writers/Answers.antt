@@ -17,7 +17,7 @@ loop-p-preserved g c =
     let before : List Standing = standings c.loop-p.writers.items in
     let t : Standing = standing c.resume.result in
     let split : standings c.push_reserved.new.self.items ≡ before ++ t ∷ [] =
-        ap (λ writers. standings writers) c.push_reserved.ensures.items ∙ map-append (λ writer. standing writer) c.loop-p.writers.items (c.resume.result ∷ []) in
+    ap (λ writers. standings writers) c.push_reserved.ensures.items ∙ map-append (λ writer. standing writer) c.loop-p.writers.items (c.resume.result ∷ []) in
     let place : length before ≡ c.loop-p.p = length-map c.loop-p.writers.items (λ writer. standing writer) ∙ c.loop-p.invariant.length in
     let maps : t.maps ≡ empty = c.resume.ensures.maps ∙ c.new-maps.ensures.entries in
     let begins : Begins g.F.Folder.tells c.loop-p.p t = record {
