@@ -8,7 +8,6 @@ ghost use Rattle.hotrestart_cli.specs.declared.outcome.Outcome.{Outcome};
 
 mod input;
 mod outcome;
-mod output;
 mod script;
 mod serve;
 mod telling;

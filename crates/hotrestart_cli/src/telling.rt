@@ -9,12 +9,11 @@ ghost use Rattle.hotrestart_cli.specs.declared.outcome.Outcome.{Outcome};
 ghost use Rattle.hotrestart_cli.specs.Outcome.{Tells, IsTellable, last_line, status_of};
 
 use crate::outcome::Outcome;
-use crate::output::write_all;
 use hr_base::print_name;
 use hr_edges::Sink;
 use itoa::Buffer;
 use std::alloc::{AllocError, Global};
-use store_drill::Ended;
+use store_drill::{Ended, write_all};
 
 /// The status that tells an outcome.
 fn status(outcome: Outcome) -> u8
