@@ -1,5 +1,5 @@
 -- How the writers of a session are opened and closed, and what they leave in the folder.
-use Rattle.std.specs.Prelude.{◌≡◌, ◌⊎◌, ℕ, ◌+◌, ◌-◌, ◌<◌, ◌≤◌, ◌^◌, min, Bool, true, false, List, [], ◌∷◌, ◌++◌, length, Option, Some, None, slice_get, refl, zero, suc}
+use Rattle.std.specs.Prelude.{◌≡◌, ◌⊎◌, ℕ, ◌+◌, ◌-◌, ◌<◌, ◌≤◌, ◌^◌, min, Bool, true, false, ◌&&◌, ◌||◌, not, is_some, List, [], ◌∷◌, ◌++◌, length, Option, Some, None, slice_get, refl, zero, suc}
 use Rattle.std.specs.Option.{option_map}
 use Rattle.std.specs.FinMap.{empty}
 use Rattle.std.proofs.Common.{sym, ◌∙◌, ap, subst, inl, inr, arith, append_assoc}
@@ -12,7 +12,7 @@ use Rattle.hr_base.specs.declared.name.ChunkName.{ChunkName}
 use Rattle.hr_base.proofs.EntryLaws.{get-empty-entries}
 use Rattle.dir_files.specs.Files.{FileState, Files}
 use Rattle.dir_files.specs.Images.{Image, read_of}
-use Rattle.dir_files.specs.Ports.{Port, SamePort, either_file}
+use Rattle.dir_files.specs.Ports.{CanJoin, Joins, Port, SamePort, either_file}
 use Rattle.dir_files.specs.PortStates.{IsGivenBack, IsVacant}
 use Rattle.crash_law.specs.Accounts.{Account, fresh_account}
 use Rattle.crash_law.specs.Crashes.{AllSurvive, PartSurvives}
@@ -39,6 +39,14 @@ none_unless (Some x) never = absurd (never x refl)
 
 no_some : {A : Type 0} (o : Option A) (x : A) → o ≡ None → o ≡ Some x → ⊥
 no_some o x none some = cc
+
+either_none : (own other : Option FileState) → own ≡ None → either_file own other ≡ other
+either_none None other none = refl
+either_none (Some file) other none = cc
+
+either_same : (own other : Option FileState) → other ≡ None → either_file own other ≡ own
+either_same None other none = none
+either_same (Some file) other none = refl
 
 -- ---- writers are opened
 
@@ -71,6 +79,49 @@ vacant_same old new s v = record {
   held = λ n. s.held n ∙ v.held n;
 }
 
+-- ---- a writer is closed
+
+found_of : (held gone : Option FileState) → gone ≡ None → (is_some held || is_some gone) ≡ true → (file : FileState) × (held ≡ Some file)
+found_of (Some file) gone none is = (file, refl)
+found_of None None none is = cc
+found_of None (Some file) none is = cc
+
+absent_of : (held gone : Option FileState) → gone ≡ None → ((file : FileState) → held ≡ Some file → ⊥) → (is_some held || is_some gone) ≡ false
+absent_of (Some file) gone none never = absurd (never file refl)
+absent_of None None none never = refl
+absent_of None (Some file) none never = cc
+
+not_both : (b : Bool) → b ≡ false → b ≡ true → ⊥
+not_both b f t = cc
+
+-- the folder can take its port in, where no file of it is there
+pub can_join : (a b : Port) (files : Files) → IsGivenBack a → IsGivenBack b → ((name : ChunkName) → b.held name ≡ files name)
+    → ((name : ChunkName) (file : FileState) → files name ≡ Some file → a.held name ≡ None) → CanJoin a b
+can_join a b files given given' held apart = record {
+  apart = λ n there.
+      let found = found_of (a.held n) (a.gone n) (given.gone n) there in
+      absent_of (b.held n) (b.gone n) (given'.gone n) (λ file is. no_some (a.held n) found.0 (apart n file (sym (held n) ∙ is)) found.1);
+  lent_apart = λ n out. absurd (not_both (a.lent n) (given.calm.lent n) out);
+  foreign_apart = λ n out. absurd (not_both (a.foreign n) (given.calm.foreign n) out);
+  lent_here = λ n out there. absurd (not_both (a.lent n) (given.calm.lent n) out);
+  lent_there = λ n out there. absurd (not_both (b.lent n) (given'.calm.lent n) out);
+}
+
+neither : (a b x y : Bool) → a ≡ false → b ≡ false → ((a && x) || (b && y)) ≡ false
+neither false false x y e f = refl
+neither false true x y e f = cc
+neither true b x y e f = cc
+
+-- and nothing is out afterwards
+pub given_back_joined : (a b new : Port) → IsGivenBack a → IsGivenBack b → Joins a b new → IsGivenBack new
+given_back_joined a b new given given' joins = record {
+  calm = record {
+    lent = λ n. joins.lent n ∙ neither (a.lent n) (b.lent n) (not (b.foreign n)) (not (a.foreign n)) (given.calm.lent n) (given'.calm.lent n);
+    foreign = λ n. joins.foreign n ∙ neither (a.foreign n) (b.foreign n) (not (b.lent n)) (not (a.lent n)) (given.calm.foreign n) (given'.calm.foreign n);
+  };
+  gone = λ n. joins.gone n ∙ either_none (a.gone n) (b.gone n) (given.gone n) ∙ given'.gone n;
+}
+
 -- ---- writers are closed, the last one first
 
 -- these writers are still to be closed, and the folder has the files of the others
@@ -94,14 +145,6 @@ closing_none tells all port count vacant = record {
   count = omega arith;
   kept = omega arith;
 }
-
-either_none : (own other : Option FileState) → own ≡ None → either_file own other ≡ other
-either_none None other none = refl
-either_none (Some file) other none = cc
-
-either_same : (own other : Option FileState) → other ≡ None → either_file own other ≡ own
-either_same None other none = none
-either_same (Some file) other none = refl
 
 module _ (tells : Bool) (all rest : List Standing) (s : Standing) (port : Port) (before now : ℕ) (closing : Closing tells all (rest ++ s ∷ []) port before now)
     (numbers : EachFits HasNumber all (λ p. p)) (own : tells ≡ true → EachIs OwnsFiles all) where

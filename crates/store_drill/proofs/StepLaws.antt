@@ -20,7 +20,7 @@ use Rattle.partition_writer.specs.declared.refusal.WriteRefusal.TheVariants.{Mem
 use Rattle.partition_writer.specs.declared.refusal.WriteRefusal.TheVariants as refusal
 use Rattle.partition_writer.specs.Standing.{Standing, Beginning, Stands, has_room, spent_by}
 use Rattle.partition_writer.specs.Storing.{number_after}
-use Rattle.partition_writer.specs.Answers.{WritesRecord, Writes, StandsAfter, SyncsAll}
+use Rattle.partition_writer.specs.Answers.{WritesRecord, Writes, StandsAfter, Syncs, SyncsAll}
 use Rattle.store_drill.specs.declared.step.Step.{Step}
 use Rattle.store_drill.specs.declared.step.Step.TheVariants.{Answered, NoReply, NoMemory, DiskFailed, Spent}
 use Rattle.store_drill.specs.Accounts.{account_after_line, account_after_refused}
@@ -81,6 +81,11 @@ module _ (s t : Standing) (r : Record) where
   pub done_partition : Done s t r → t.partition ≡ s.partition
   done_partition (inl writes) = writes.notes.partition
   done_partition (inr nothing) = ap (λ (x : Standing). x.partition) nothing.1
+
+pub goes_synced : (s t : Standing) → t.halted ≡ s.halted → Syncs s t → GoesOn s t
+goes_synced s t running syncs = record { running = running; whole = syncs.lost; next = omega (arith, syncs.next); next_chunk = omega (arith, syncs.next_chunk) }
+
+-- ---- refused
 
 -- a command was refused
 module _ (T : Type 0) (tells : Bool) (line : Line) (s t : Standing) (text : List ℕ) (r : Record) where

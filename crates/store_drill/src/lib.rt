@@ -6,6 +6,8 @@ mod lines;
 mod output;
 mod session;
 mod step;
+#[cfg(test)]
+mod tests;
 mod writers;
 
 pub use ended::Ended;

@@ -1,7 +1,8 @@
-use Rattle.std.proofs.Common.{◌≡◌, ℕ, List, length, ap, sym, ◌∙◌, arith}
+use Rattle.std.proofs.Common.{◌≡◌, ℕ, length, sym, subst, rules, arith}
+use Rattle.std.proofs.lemmas.List.Elements.{All-get_or}
 use Rattle.script_text.specs.declared.line.Line.{Line}
-use Rattle.script_text.specs.Replies.{text_after}
-use Rattle.partition_writer.specs.Standing.{Standing}
+use Rattle.script_text.specs.declared.line.Mode.TheVariants.{Play}
+use Rattle.script_text.specs.Lines.{IsLine}
 use Rattle.store_drill.specs.declared.step.Step.TheVariants.{Answered, DiskFailed, NoMemory, NoReply, Spent}
 use Rattle.store_drill.specs.Playing.{PlaysAmong}
 use Rattle.store_drill.specs.Writers.{beginning, standings}
@@ -10,6 +11,14 @@ use Rattle.store_drill.proofs.lines.play_lines.Goals as goal
 
 pub loop-line-init : goal.loop-line-init
 loop-line-init g c = record { so_far = SoFar-none _ _ _ _ c.requires.running; sink_kept = omega arith }
+
+pub answer-requires-clause-valid : goal.answer-requires-clause-valid
+answer-requires-clause-valid g c =
+    let same : length c.args.writers.now ≡ length c.loop-line.writers = search rules in
+    let valid : IsLine Play (length c.args.writers.now) c.line-item.result =
+        subst (λ (line : Line). IsLine Play (length c.args.writers.now) line) (sym c.line-item.is)
+        (All-get_or (IsLine Play (length c.args.writers.now)) c.args.lines.now c.loop-line.line-index c.line-item.result c.loop-line-test.true c.requires.valid) in
+    subst (λ (partitions : ℕ). IsLine Play partitions c.line-item.result) same valid
 
 pub answer-requires-clause-running : goal.answer-requires-clause-running
 answer-requires-clause-running g c = λ p s is. (c.loop-line.invariant.so_far.goes p s is).running

@@ -1,4 +1,4 @@
-use Rattle.std.proofs.Common.{◌≡◌, ◌<◌, ℕ, List, Option, Some, length, slice_get, slice_set, get_or, refl, sym, subst, ap, ◌∙◌, arith}
+use Rattle.std.proofs.Common.{◌≡◌, ◌<◌, ℕ, List, Option, Some, length, slice_get, slice_set, get_or, refl, sym, subst, ap, ◌∙◌, rules, arith}
 use Rattle.std.specs.Option.{option_map}
 use Rattle.std.proofs.lemmas.Option.{slice_get-get_or, slice_get-map}
 use Rattle.std.proofs.lemmas.List.{map-set}
@@ -9,6 +9,17 @@ use Rattle.partition_writer.specs.WriterViews.{standing}
 use Rattle.store_drill.specs.Writers.{standings}
 use Rattle.store_drill.proofs.StepLaws.{fits_record, of_partition}
 use Rattle.store_drill.proofs.step.answer.Goals as goal
+
+pub offset_bounds-writers-at : goal.offset_bounds-writers-at
+offset_bounds-writers-at g c =
+    let within : c.place-at.result < length c.args.writers.now = omega (arith, c.place-at.ensures, of_partition Play (length c.args.writers.now) c.args.line.now c.requires.valid) in
+    search rules
+
+pub bounds-writers-at : goal.bounds-writers-at
+bounds-writers-at g c = omega (arith, c.place-at.ensures, of_partition Play (length c.args.writers.now) c.args.line.now c.requires.valid)
+
+pub answer_on-requires-clause-fits : goal.answer_on-requires-clause-fits
+answer_on-requires-clause-fits g c = fits_record Play (length c.args.writers.now) c.args.line.now c.requires.valid
 
 pub answer_on-requires-clause-running : goal.answer_on-requires-clause-running
 answer_on-requires-clause-running g c =

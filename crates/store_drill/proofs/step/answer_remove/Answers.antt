@@ -1,7 +1,8 @@
-use Rattle.std.proofs.Common.{◌≡◌, ℕ, List, ◌++◌, length, None, Option, is_some, refl, sym, subst, ap, inr, ◌∙◌}
+use Rattle.std.proofs.Common.{◌≡◌, ℕ, List, ◌++◌, length, None, Some, Option, is_some, refl, sym, subst, ap, inl, inr, ◌∙◌}
 use Rattle.std.specs.FinMap.{get}
+use Rattle.std.proofs.lemmas.Option.{none-some}
 use Rattle.hr_base.specs.declared.name.Class.TheVariants.{Tomb}
-use Rattle.hr_base.specs.Entries.{Content, key_at}
+use Rattle.hr_base.specs.Entries.{Content, content_of, key_at}
 use Rattle.hr_base.specs.Records.{record_length}
 use Rattle.script_text.specs.declared.line.Line.TheVariants.{Remove}
 use Rattle.script_text.specs.Replies.{old_text}
@@ -25,6 +26,19 @@ returns-in-Ok-None g c =
     plays_answered g.F.Folder.tells (Remove c.args.p c.args.prefix c.args.key.now) s t c.reply.new.text.items c.reply.result c.reply.ensures.only
     (λ e. c.reply.ensures.text e ∙ ap (λ (before : List ℕ). before ++ old_text c.args.p.0 None) c.requires.cleared ∙ ap (λ (o : Option Content). old_text c.args.p.0 o) (sym none))
     (done_maps s t r done) (done_goes s t r (c.in-Ok-None.ensures.disk.ok) done) (done_partition s t r done) c.in-Ok-None.ensures.account
+
+pub returns-in-Ok-Some : goal.returns-in-Ok-Some
+returns-in-Ok-Some g c =
+    let s : Standing = standing c.args.writer.now in
+    let t : Standing = standing c.remove.new.self in
+    let key = key_at c.args.prefix c.args.key.now in
+    let r = remove_record s.next c.args.prefix c.args.key.now in
+    let before : Some (content_of c.in-Ok-Some.before) ≡ get s.maps key = rw c.in-Ok-Some.field-0-is at c.in-Ok-Some.ensures.before in
+    let done : Done s t r = inl (c.in-Ok-Some.ensures.written (some_unless (get s.maps key) (λ none. none-some (content_of c.in-Ok-Some.before) (sym (before ∙ none))))) in
+    plays_answered g.F.Folder.tells (Remove c.args.p c.args.prefix c.args.key.now) s t c.reply-in-Ok-Some.new.text.items c.reply-in-Ok-Some.result c.reply-in-Ok-Some.ensures.only
+    (λ e. c.reply-in-Ok-Some.ensures.text e ∙ ap (λ (first : List ℕ). first ++ old_text c.args.p.0 (Some (content_of c.as_slice.result.now))) c.requires.cleared
+        ∙ ap (λ (value : List ℕ). old_text c.args.p.0 (Some (content_of value))) c.as_slice.ensures ∙ ap (λ (o : Option Content). old_text c.args.p.0 o) before)
+    (done_maps s t r done) (done_goes s t r c.in-Ok-Some.ensures.disk.ok done) (done_partition s t r done) c.in-Ok-Some.ensures.account
 
 pub returns-in-Err : goal.returns-in-Err
 returns-in-Err g c =
