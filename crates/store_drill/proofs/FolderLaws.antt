@@ -81,13 +81,13 @@ vacant_same old new s v = record {
 
 -- ---- a writer is closed
 
-found_of : (held gone : Option FileState) → gone ≡ None → (is_some held || is_some gone) ≡ true → (file : FileState) × (held ≡ Some file)
-found_of (Some file) gone none is = (file, refl)
+found_of : (held removed : Option FileState) → removed ≡ None → (is_some held || is_some removed) ≡ true → (file : FileState) × (held ≡ Some file)
+found_of (Some file) removed none is = (file, refl)
 found_of None None none is = cc
 found_of None (Some file) none is = cc
 
-absent_of : (held gone : Option FileState) → gone ≡ None → ((file : FileState) → held ≡ Some file → ⊥) → (is_some held || is_some gone) ≡ false
-absent_of (Some file) gone none never = absurd (never file refl)
+absent_of : (held removed : Option FileState) → removed ≡ None → ((file : FileState) → held ≡ Some file → ⊥) → (is_some held || is_some removed) ≡ false
+absent_of (Some file) removed none never = absurd (never file refl)
 absent_of None None none never = refl
 absent_of None (Some file) none never = cc
 

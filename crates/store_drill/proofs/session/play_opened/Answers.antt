@@ -1,11 +1,11 @@
-use Rattle.std.proofs.Common.{◌≡◌, ℕ, List, ◌++◌, [], length, take, drop, refl, sym, subst, ap, ◌∙◌, rules, arith}
+use Rattle.std.proofs.Common.{◌≡◌, ◌≤◌, ℕ, List, ◌++◌, [], length, take, drop, refl, sym, subst, ap, ◌∙◌, rules, arith}
 use Rattle.std.specs.Prelude.{slice_get}
 use Rattle.std.proofs.lemmas.Grind.{common_steps}
 use Rattle.std.proofs.lemmas.List.{append-nil, drop_all, length-map, take_all}
 use Rattle.partition_writer.specs.Standing.{Standing}
 use Rattle.partition_writer.specs.WriterViews.{standing}
 use Rattle.store_drill.specs.Playing.{Left}
-use Rattle.store_drill.specs.Writers.{Begins, EachFits, standings}
+use Rattle.store_drill.specs.Writers.{Begins, EachFits, faults_of, standings}
 use Rattle.store_drill.proofs.FolderLaws.{left_none, left_played}
 use Rattle.store_drill.proofs.session.play_opened.Goals as goal
 
@@ -37,3 +37,11 @@ returns-in-Err-clause-left g c =
     let few = c.in-Err.ensures.few in
     left_none _ _ _ (standings c.open_writers.new.writers.items) _ c.in-Err.ensures.begun
     (omega (arith, length-map c.open_writers.new.writers.items (λ writer. standing writer), few))
+
+pub returns-in-Ok-clause-disk : goal.returns-in-Ok-clause-disk
+returns-in-Ok-clause-disk g c = λ is.
+    let items = c.open_writers.new.writers.items in
+    let played = c.play_lines.new.writers in
+    let same : length played ≡ length items = search rules in
+    let back : take c.open_writers.new.writers.len (played ++ drop (length played) items) ≡ played = written_back c.open_writers.new.writers.len items played same (search rules) in
+    subst (λ writers. 1 ≤ faults_of (standings writers)) (sym back) (c.play_lines.ensures.disk is)

@@ -1,4 +1,4 @@
-use Rattle.std.proofs.Common.{◌≡◌, List, [], ◌∷◌, ◌++◌, ap, sym, subst, ◌∙◌}
+use Rattle.std.proofs.Common.{◌≡◌, List, [], ◌∷◌, ◌++◌, length, ap, subst, ◌∙◌, rules, arith}
 use Rattle.std.proofs.lemmas.List.{map-append}
 use Rattle.partition_writer.specs.Standing.{Standing}
 use Rattle.partition_writer.specs.WriterViews.{standing}
@@ -26,3 +26,9 @@ loop-writer-preserved g c =
     closing_more _ (standings c.args.writers.items) rest (standing c.in-Some.writer) _ _ _
     (subst (λ (writers : List Standing). Closing g.F.Folder.tells (standings c.args.writers.items) writers (g.F.Folder.port c.loop-writer.folder) (g.F.Folder.count c.args.folder.now) (g.F.Folder.count c.loop-writer.folder)) split c.loop-writer.invariant)
     c.requires.numbers c.requires.own _ _ c.close_writer.ensures.given_back c.close_writer.ensures.held c.close_writer.ensures.count c.close_writer.ensures.kept
+
+pub returns-clause-held : goal.returns-clause-held
+returns-clause-held g c = λ y name.
+    let none : c.loop-writer.writers.items ≡ [] = search rules in
+    let empty : length (standings c.loop-writer.writers.items) ≡ 0 = ap (λ writers. length (standings writers)) none in
+    c.loop-writer.invariant.above y name (omega (arith, empty))
