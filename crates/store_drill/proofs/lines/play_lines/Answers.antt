@@ -16,8 +16,8 @@ pub answer-requires-clause-valid : goal.answer-requires-clause-valid
 answer-requires-clause-valid g c =
     let same : length c.args.writers.now ≡ length c.loop-line.writers = search rules in
     let valid : IsLine Play (length c.args.writers.now) c.line-item.result =
-        subst (λ (line : Line). IsLine Play (length c.args.writers.now) line) (sym c.line-item.is)
-        (All-get_or (IsLine Play (length c.args.writers.now)) c.args.lines.now c.loop-line.line-index c.line-item.result c.loop-line-test.true c.requires.valid) in
+    subst (λ (line : Line). IsLine Play (length c.args.writers.now) line) (sym c.line-item.is)
+    (All-get_or (IsLine Play (length c.args.writers.now)) c.args.lines.now c.loop-line.line-index c.line-item.result c.loop-line-test.true c.requires.valid) in
     subst (λ (partitions : ℕ). IsLine Play partitions c.line-item.result) same valid
 
 pub answer-requires-clause-running : goal.answer-requires-clause-running

@@ -37,7 +37,7 @@ returns-in-Ok-Some g c =
     let done : Done s t r = inl (c.in-Ok-Some.ensures.written (some_unless (get s.maps key) (λ none. none-some (content_of c.in-Ok-Some.before) (sym (before ∙ none))))) in
     plays_answered g.F.Folder.tells (Remove c.args.p c.args.prefix c.args.key.now) s t c.reply-in-Ok-Some.new.text.items c.reply-in-Ok-Some.result c.reply-in-Ok-Some.ensures.only
     (λ e. c.reply-in-Ok-Some.ensures.text e ∙ ap (λ (first : List ℕ). first ++ old_text c.args.p.0 (Some (content_of c.as_slice.result.now))) c.requires.cleared
-        ∙ ap (λ (value : List ℕ). old_text c.args.p.0 (Some (content_of value))) c.as_slice.ensures ∙ ap (λ (o : Option Content). old_text c.args.p.0 o) before)
+    ∙ ap (λ (value : List ℕ). old_text c.args.p.0 (Some (content_of value))) c.as_slice.ensures ∙ ap (λ (o : Option Content). old_text c.args.p.0 o) before)
     (done_maps s t r done) (done_goes s t r c.in-Ok-Some.ensures.disk.ok done) (done_partition s t r done) c.in-Ok-Some.ensures.account
 
 pub returns-in-Err : goal.returns-in-Err

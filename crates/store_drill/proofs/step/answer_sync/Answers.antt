@@ -21,4 +21,4 @@ returns-in-Err g c =
     let t : Standing = standing c.sync.new.self in
     subst (λ (step : Step). Plays g.F.Folder.tells step (Sync c.args.p) s t c.args.text.now.items) (sym c.refused.ensures)
     (plays_unsynced _ g.F.Folder.tells c.args.p s t c.args.text.now.items c.in-Err.refusal c.in-Err.ensures.synced
-        c.in-Err.ensures.disk.memory c.in-Err.ensures.disk.cause (λ at is. (c.in-Err.ensures.halted at).0 is) c.requires.running c.in-Err.ensures.account)
+    c.in-Err.ensures.disk.memory c.in-Err.ensures.disk.cause (λ at is. (c.in-Err.ensures.halted at).0 is) c.requires.running c.in-Err.ensures.account)
