@@ -1,0 +1,279 @@
+//! What a port in memory knows of each name, in a chain of nodes that grows by nodes made elsewhere.
+
+ghost use Rattle.std.specs.Prelude.{◌≡◌, ◌∷◌, ◌++◌, [], None, Some, IfOk, OnOk, MatchOption, if◌then◌else◌};
+ghost use Rattle.dir_files.specs.Files.{FileState, new_file, named_file};
+ghost use Rattle.dir_files.specs.Ports.{IsListing, either_file};
+ghost use Rattle.mem_folder.specs.Links.{slots_of, IsTidy};
+ghost use Rattle.mem_folder.specs.Memory.{blank, created_entry, returned_entry, joined, synced_entry, entry_at, merged, synced_slots, held_names, port_of};
+ghost use Rattle.hr_base.specs.NameTests.{is_name};
+ghost use Rattle.hr_base.specs.Names.{IsChunkName};
+
+use crate::content::Content;
+use hr_base::ChunkName;
+use std::alloc::{AllocError, Global};
+use std::marker::Model;
+
+/// What a port knows of one name.
+#[derive(Debug, Drop)]
+pub struct Entry {
+    /// The file, where it lies here.
+    pub held: Option<Content>,
+    /// The file, where it was removed since the last directory sync.
+    pub gone: Option<Content>,
+    /// A handle was given out here.
+    pub lent: bool,
+    /// A handle came back that was given out elsewhere.
+    pub foreign: bool,
+    /// The name was created here since the last directory sync.
+    pub created: bool,
+    /// The name is lent, and was created here before the last directory sync.
+    pub fixed: bool,
+}
+
+/// A name, and what a port knows of it.
+#[derive(Debug, Drop)]
+pub struct Slot {
+    pub name: ChunkName,
+    pub entry: Entry,
+}
+
+/// The names that a port knows, each once.
+#[cycle(chain)]
+#[derive(Debug, Drop)]
+pub struct Chain {
+    link: Link,
+}
+
+#[cycle(chain)]
+#[derive(Debug, Drop)]
+enum Link {
+    End,
+    More(Slot, Box<Chain>),
+}
+
+impl Model for Chain {
+    ghost use Rattle.std.specs.Prelude.{List, ℕ, length};
+    ghost use Rattle.mem_folder.specs.declared.chain.Slot.{Slot};
+
+    ghost Value = { List Slot };
+
+    ghost use Rattle.mem_folder.specs.Links.{slots_of, IsTidy};
+
+    ghost view = { λ a. slots_of a.link };
+
+    ghost invariant = { λ a. IsTidy a.link };
+
+    ghost size = { length };
+
+    ghost use Rattle.std.proofs.Common.{arith, length-append};
+
+    ghost size_decreases = { λ a h. Prim.grind (arith, length-append) };
+}
+
+/// Whether the names are the same.
+fn is_same(first: ChunkName, second: ChunkName) -> bool
+    ensures { result ≡ is_name first second }
+{
+    first == second
+}
+
+/// The first file, or the second where there is no first.
+fn either(first: Option<Content>, second: Option<Content>) -> Option<Content>
+    ensures { result ≡ either_file first second }
+{
+    match first {
+        Some(content) => Some(content),
+        None => second,
+    }
+}
+
+/// The first removed file, or the second where there is no first and no file came in its place.
+fn either_removed(
+    replaced: bool,
+    first: Option<Content>,
+    second: Option<Content>,
+) -> Option<Content>
+    ensures { result ≡ (if replaced then first else either_file first second) }
+{
+    if replaced {
+        first
+    } else {
+        either(first, second)
+    }
+}
+
+/// A link to the last node of a chain.
+fn last_link(slot: Slot, mut node: Box<Chain>) -> Link
+    requires { IsChunkName slot.name }
+    ensures slots { slots_of result ≡ slot ∷ [] }
+    ensures tidy { IsTidy result }
+{
+    *node = Chain::empty();
+    Link::More(slot, node)
+}
+
+impl Entry {
+    /// Of a name whose handle has just been given out, for a new file.
+    pub fn created() -> Entry
+        ensures { result ≡ created_entry }
+    {
+        Entry {
+            held: None,
+            gone: None,
+            lent: true,
+            foreign: false,
+            created: true,
+            fixed: false,
+        }
+    }
+
+    /// Of a name whose handle comes back with this file.
+    pub fn returned(content: Content) -> Entry
+        ensures { result ≡ returned_entry content }
+    {
+        Entry {
+            held: Some(content),
+            gone: None,
+            lent: false,
+            foreign: true,
+            created: false,
+            fixed: false,
+        }
+    }
+
+    /// Takes in what is known of the name elsewhere, or has just become known.
+    pub fn join(&mut self, newer: Entry)
+        ensures { self.new ≡ joined newer self.old }
+    {
+        let Entry {
+            held,
+            gone,
+            lent,
+            foreign,
+            created,
+            fixed,
+        } = newer;
+        self.gone = either_removed(held.is_some(), gone, self.gone.take());
+        self.held = either(held, self.held.take());
+        self.created = created || self.created;
+        self.fixed = fixed && !self.foreign || self.fixed && !foreign;
+        let here = self.lent;
+        self.lent = lent && !self.foreign || here && !foreign;
+        self.foreign = foreign && !here || self.foreign && !lent;
+    }
+
+    /// Makes the name durable, and its removal too.
+    pub fn sync(&mut self)
+        ensures { self.new ≡ synced_entry self.old }
+    {
+        if let Some(content) = &mut self.held {
+            content.fix_name();
+        }
+        self.gone = None;
+        self.fixed = self.fixed || self.created && self.lent;
+        self.created = false;
+    }
+}
+
+impl Chain {
+    /// A chain that knows no name.
+    pub fn empty() -> Chain
+        ensures { result ≡ [] }
+    {
+        Chain { link: Link::End }
+    }
+
+    /// A node for a chain to grow by.
+    pub fn spare(alloc: Global) -> Result<Box<Chain>, AllocError>
+        ensures { IfOk result (λ node. node.value ≡ []) }
+    {
+        let node = Box::new(alloc, Chain::empty())?;
+        Ok(node)
+    }
+
+    /// What is known of a name, where it is.
+    pub fn entry(&self, name: ChunkName) -> Option<&Entry>
+        ensures { MatchOption result (entry_at self.now name ≡ blank) (λ entry. entry.now ≡ entry_at self.now name) }
+    {
+        match &self.link {
+            Link::End => None,
+            Link::More(slot, rest) => {
+                if is_same(name, slot.name) {
+                    Some(&slot.entry)
+                } else {
+                    rest.entry(name)
+                }
+            }
+        }
+    }
+
+    /// Whether the name is lent, and was created here before the last directory sync.
+    pub fn is_fixed(&self, name: ChunkName) -> bool
+        ensures { result ≡ (entry_at self.now name).fixed }
+    {
+        match self.entry(name) {
+            None => false,
+            Some(entry) => entry.fixed,
+        }
+    }
+
+    /// Takes in what is known of a name. The spare node is used where the name was not known.
+    pub fn merge(&mut self, slot: Slot, spare: Box<Chain>)
+        requires { IsChunkName slot.name }
+        ensures { self.new ≡ merged self.old slot }
+    {
+        match &mut self.link {
+            Link::End => self.link = last_link(slot, spare),
+            Link::More(known, rest) => {
+                if is_same(known.name, slot.name) {
+                    known.entry.join(slot.entry);
+                } else {
+                    rest.merge(slot, spare);
+                }
+            }
+        }
+    }
+
+    /// Takes in all that another chain knows.
+    pub fn absorb(&mut self, newer: Chain)
+        ensures { (name : ChunkName) → entry_at self.new name ≡ joined (entry_at newer name) (entry_at self.old name) }
+    {
+        match newer.link {
+            Link::End => {}
+            Link::More(slot, mut rest) => {
+                let others = std::mem::replace(&mut *rest, Chain::empty());
+                self.merge(slot, rest);
+                self.absorb(others);
+            }
+        }
+    }
+
+    /// Makes every name durable.
+    pub fn sync(&mut self)
+        ensures { self.new ≡ synced_slots self.old }
+    {
+        match &mut self.link {
+            Link::End => {}
+            Link::More(slot, rest) => {
+                slot.entry.sync();
+                rest.sync();
+            }
+        }
+    }
+
+    /// Adds the names of the held files.
+    pub fn list(&self, names: &mut Vec<ChunkName>) -> Result<(), AllocError>
+        ensures added { OnOk result (names.new.items ≡ names.old.items ++ held_names self.now) }
+        ensures listing { OnOk result (IsListing (port_of self.now) (held_names self.now)) }
+    {
+        match &self.link {
+            Link::End => Ok(()),
+            Link::More(slot, rest) => {
+                if slot.entry.held.is_some() {
+                    names.push(slot.name)?;
+                }
+                rest.list(names)
+            }
+        }
+    }
+}
