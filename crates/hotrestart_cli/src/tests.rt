@@ -8,7 +8,7 @@ mod runs;
 mod stops;
 
 use crate::serve::serve;
-use dir_files::{FaultPlan, MemFolder};
+use mem_folder::{FaultPlan, MemFolder};
 use hr_base::{ChunkName, ChunkNo, Kind, Partition};
 use hr_edges::{MemSink, MemSource};
 use recording::{Call, Recording};

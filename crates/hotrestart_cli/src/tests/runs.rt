@@ -2,7 +2,7 @@
 
 use super::{Left, V1, run, words};
 use crate::serve::serve;
-use dir_files::MemFolder;
+use mem_folder::MemFolder;
 use hr_base::{ChunkName, ChunkNo, Kind, Partition};
 use hr_edges::{MemSink, MemSource};
 use std::alloc::Global;
