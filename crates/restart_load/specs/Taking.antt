@@ -1,5 +1,5 @@
 -- Chunk files that a restart has in hand.
-use Rattle.std.specs.Prelude.{◌≡◌, ◌≢◌, ℕ, true, false, List, [], ◌∷◌, length, All, AllPairs, Option, Some, None, IfSome, is_some, map, if◌then◌else◌}
+use Rattle.std.specs.Prelude.{◌≡◌, ℕ, true, false, List, [], ◌∷◌, Option, Some, None, IfSome, is_some, if◌then◌else◌, ⊤}
 use Rattle.hr_base.specs.declared.name.ChunkName.{ChunkName}
 use Rattle.hr_base.specs.NameTests.{is_name}
 use Rattle.dir_files.specs.Files.{FileState, Files, IsDurable, Rises, SameAt}
@@ -17,6 +17,11 @@ abbrev pub in_hand : List TakenFile → Files
 in_hand [] name = None
 in_hand (taken ∷ others) name = if is_name name taken.name then Some taken.file else in_hand others name
 
+-- no two of the files have one name
+abbrev pub AreApart : List TakenFile → Type 0
+AreApart [] = ⊤
+AreApart (taken ∷ others) = (in_hand others taken.name ≡ None) × AreApart others
+
 -- all files, in hand or at the port
 abbrev pub files_with : Port → List TakenFile → Files
 files_with port files name = either_file (in_hand files name) (port.held name)
@@ -28,7 +33,7 @@ pub record HasTaken (start now : Port) (files : List TakenFile) : Type 0 where
   pub lent : (name : ChunkName) → now.lent name ≡ is_some (in_hand files name)
   pub gone : (name : ChunkName) → now.gone name ≡ None
   pub foreign : (name : ChunkName) → now.foreign name ≡ false
-  pub apart : AllPairs (λ a b. a.name ≢ b.name) files
+  pub apart : AreApart files
 
 -- all files, in hand or at the port, are durable
 abbrev pub AllDurableWith : Port → List TakenFile → Type 0

@@ -1,6 +1,6 @@
 //! The writers of a folder that was read, one for each partition.
 
-ghost use Rattle.std.specs.Prelude.{◌≡◌, ◌≤◌, [], true, length, None, Some, IfOk, OnOk, vec_capacity};
+ghost use Rattle.std.specs.Prelude.{◌≡◌, ◌≤◌, ◌<◌, [], true, length, None, Some, IfOk, OnOk, vec_capacity};
 ghost use Rattle.hr_base.specs.declared.name.ChunkName.{ChunkName};
 ghost use Rattle.hr_base.specs.declared.limits.TheConstants.{MAX_PARTITIONS};
 ghost use Rattle.hr_base.specs.LimitRanges.{IsLimits};

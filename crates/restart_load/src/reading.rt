@@ -1,6 +1,6 @@
 //! Reading chunk files whole.
 
-ghost use Rattle.std.specs.Prelude.{◌≡◌, ◌≤◌, ◌<◌, ◌++◌, true, All, IfErr, IfOk, IsErrOf, OnErr, OnOk, length, map, take};
+ghost use Rattle.std.specs.Prelude.{◌≡◌, ◌≤◌, ◌<◌, ◌+◌, ◌++◌, true, All, IfErr, IfOk, IsErrOf, OnErr, OnOk, length, map, take};
 ghost use Rattle.hr_base.specs.Counts.{Rose};
 ghost use Rattle.hr_base.specs.declared.limits.TheConstants.{MAX_FILE_LEN};
 ghost use Rattle.dir_files.specs.Faults.{CountsFault, is_fault};

@@ -1,6 +1,6 @@
 //! The chunk files of a folder, in hand.
 
-ghost use Rattle.std.specs.Prelude.{◌≡◌, ◌≤◌, ◌++◌, ◌∷◌, [], true, false, All, IsSome, IfSome, OnErr, OnOk, map, vec_capacity, length};
+ghost use Rattle.std.specs.Prelude.{◌≡◌, ◌≤◌, ◌+◌, ◌++◌, ◌∷◌, List, [], true, false, All, IsSome, IfSome, OnErr, OnOk, map, vec_capacity, length};
 ghost use Rattle.hr_base.specs.declared.name.ChunkName.{ChunkName};
 ghost use Rattle.hr_base.specs.Names.{IsChunkName};
 ghost use Rattle.dir_files.specs.Faults.{CountsFault, is_fault};
