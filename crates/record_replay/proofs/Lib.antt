@@ -1,0 +1,5 @@
+pub mod SameFacts
+pub mod OrderLaws
+pub mod ClashLaws
+pub mod PlayLaws
+pub mod LimitLaws

@@ -1,0 +1,1 @@
+//! A table of found records, and what they restart to.
