@@ -1,0 +1,13 @@
+//! Chunk files that are read.
+#![tactic(auto)]
+
+mod chunk;
+mod copies;
+mod records;
+mod refusal;
+#[cfg(test)]
+mod tests;
+
+pub use chunk::{Chunk, read_chunk};
+pub use records::Records;
+pub use refusal::ReadRefusal;
