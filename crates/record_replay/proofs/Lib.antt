@@ -1,4 +1,5 @@
 pub mod SameFacts
+pub mod FoundLaws
 pub mod OrderLaws
 pub mod ClashLaws
 pub mod PlayLaws

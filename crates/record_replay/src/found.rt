@@ -3,6 +3,7 @@
 ghost use Rattle.std.specs.Prelude.{◌≡◌, [], ◌∷◌, ◌++◌, ◌<◌, ◌≤◌, map, vec_len, vec_capacity, OnOk, OnErr};
 ghost use Rattle.record_replay.specs.Replays.{found_in};
 
+use chunk_read::Records;
 use hr_base::{ChunkName, Memory};
 use record_format::Record;
 use std::alloc::Global;
@@ -49,10 +50,11 @@ impl FoundRecords {
     }
 
     /// Puts the records of a chunk file behind the others.
-    pub fn add(&mut self, chunk: ChunkName, records: Vec<(u64, Record)>) -> Result<(), Memory>
-        ensures ok { OnOk result (self.new ≡ self.old ++ map (λ x. found_in chunk x.1) records.items) }
+    pub fn add(&mut self, chunk: ChunkName, records: Records) -> Result<(), Memory>
+        ensures ok { OnOk result (self.new ≡ self.old ++ map (λ x. found_in chunk x.1) records) }
         ensures err { OnErr result (self.new ≡ self.old) }
     {
+        let records = records.into_vec();
         self.list.reserve(records.len())?;
         for (_offset, record) in records {
             put_behind(&mut self.list, Found { record, chunk });

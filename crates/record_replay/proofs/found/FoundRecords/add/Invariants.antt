@@ -8,6 +8,6 @@ abbrev pub invariant-loop-offset : goal.invariant-loop-offset
 invariant-loop-offset l = record {
   can : (goal.iterator-loop-offset).can_next l._offset-iterator;
   finite : (goal.iterator-loop-offset).is_finite l._offset-iterator;
-  put : l.self-inside.list.items ++ map (λ x. found_in l.chunk x.1) (into_iter_items l._offset-iterator) ≡ l.fn.self ++ map (λ x. found_in l.chunk x.1) l.fn.records.items;
+  put : l.self-inside.list.items ++ map (λ x. found_in l.chunk x.1) (into_iter_items l._offset-iterator) ≡ l.fn.self ++ map (λ x. found_in l.chunk x.1) l.fn.records;
   room : vec_len l.self-inside.list + into_iter_len l._offset-iterator ≤ vec_capacity l.self-inside.list;
 }
