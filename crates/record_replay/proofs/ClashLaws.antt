@@ -1,5 +1,5 @@
 -- Records whose numbers do not fall: whether those with one number are one.
-use Rattle.std.specs.Prelude.{◌≡◌, ◌≢◌, ◌⊎◌, ℕ, ◌+◌, ◌-◌, ◌<◌, ◌≤◌, List, length, Contains, slice_index_or, refl}
+use Rattle.std.specs.Prelude.{◌≡◌, ◌≢◌, ◌⊎◌, ℕ, ◌+◌, ◌-◌, ◌<◌, ◌≤◌, List, length, slice_index_or, refl}
 use Rattle.std.proofs.Common.{sym, ◌∙◌, ap, inl, inr, arith}
 use Rattle.std.proofs.lemmas.List.{get_or_default}
 use Rattle.std.proofs.lemmas.List.Elements.{Contains-get_or}
@@ -9,7 +9,7 @@ use Rattle.crash_law.specs.Numbered.{IsIn}
 use Rattle.crash_law.specs.Restarts.{Agree}
 use Rattle.crash_law.proofs.NumberedLaws.{Contains-from_in, in_from_Contains}
 use Rattle.record_replay.specs.Orders.{left_behind}
-use Rattle.record_replay.specs.Replays.{ClashesAt, IsFirstClash}
+use Rattle.record_replay.specs.Replays.{IsFirstClash}
 
 abbrev pub at : List Record → ℕ → Record
 at rs k = slice_index_or rs k left_behind
@@ -54,16 +54,16 @@ module _ (rs : List Record) (up : DoNotFall rs) (n : ℕ) (some : 0 < n) (within
   pub agree_more : (seq_of (at rs (n - 1)) ≡ seq_of (at rs n) → at rs (n - 1) ≡ at rs n) → AgreeBelow rs (n + 1)
   agree_more pair = record {
     agree = λ i j h k e.
-      elim (last_or_before i n h) [
-        | inl a ↦ elim (last_or_before j n k) [
-          | inl b ↦ ap (at rs) (a ∙ sym b)
-          | inr b ↦ ap (at rs) a ∙ sym (with_last pair j b (sym e ∙ ap (λ (x : ℕ). seq_of (at rs x)) a))
-        ]
-        | inr a ↦ elim (last_or_before j n k) [
-          | inl b ↦ with_last pair i a (e ∙ ap (λ (x : ℕ). seq_of (at rs x)) b) ∙ sym (ap (at rs) b)
-          | inr b ↦ below.agree i j a b e
-        ]
-      ];
+        elim (last_or_before i n h) [
+          | inl a ↦ elim (last_or_before j n k) [
+            | inl b ↦ ap (at rs) (a ∙ sym b)
+            | inr b ↦ ap (at rs) a ∙ sym (with_last pair j b (sym e ∙ ap (λ (x : ℕ). seq_of (at rs x)) a))
+          ]
+          | inr a ↦ elim (last_or_before j n k) [
+            | inl b ↦ with_last pair i a (e ∙ ap (λ (x : ℕ). seq_of (at rs x)) b) ∙ sym (ap (at rs) b)
+            | inr b ↦ below.agree i j a b e
+          ]
+        ];
   }
 
   before : (k : ℕ) → k < length rs → seq_of (at rs k) < seq_of (at rs n) → k < n
@@ -84,12 +84,12 @@ module _ (rs : List Record) (up : DoNotFall rs) (n : ℕ) (some : 0 < n) (within
       differ = differ;
     };
     first = λ smaller less c.
-      let a = stands rs c.one c.fact in
-      let b = stands rs c.other c.other_fact in
-      let s = ap seq_of a.is ∙ c.number in
-      let t = ap seq_of b.is ∙ c.other_number in
-      c.differ (sym a.is ∙ below.agree a.place b.place
-      (before a.place a.within (omega (arith, s))) (before b.place b.within (omega (arith, t))) (s ∙ sym t) ∙ b.is);
+        let a = stands rs c.one c.fact in
+        let b = stands rs c.other c.other_fact in
+        let s = ap seq_of a.is ∙ c.number in
+        let t = ap seq_of b.is ∙ c.other_number in
+        c.differ (sym a.is ∙ below.agree a.place b.place
+        (before a.place a.within (omega (arith, s))) (before b.place b.within (omega (arith, t))) (s ∙ sym t) ∙ b.is);
   }
 
 -- where all agree, the facts do

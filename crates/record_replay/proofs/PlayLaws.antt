@@ -5,7 +5,7 @@ use Rattle.std.proofs.lemmas.Bool.{cases_Bool}
 use Rattle.std.proofs.lemmas.List.{take_more, take_all, length-take, get_or-take, get_or-set_other, length-set}
 use Rattle.std.specs.FinMap as map
 use Rattle.hr_base.specs.declared.limits.TheConstants.{SEQ_END}
-use Rattle.hr_base.specs.Entries.{Key, Entries, State}
+use Rattle.hr_base.specs.Entries.{Key, Entries}
 use Rattle.hr_base.proofs.EntryLaws.{get-empty-entries}
 use Rattle.record_format.specs.declared.record.Record.{Record}
 use Rattle.record_format.specs.Spelling.{IsRecord, seq_of}
@@ -17,7 +17,7 @@ use Rattle.crash_law.proofs.PlacedLaws.{in_append, in_left, in_right, in_front}
 use Rattle.crash_law.proofs.RestartLaws.{IsRestartOf-same}
 use Rattle.record_replay.specs.Orders.{IsOrder, IsPlace, left_behind, records_at}
 use Rattle.record_replay.specs.Replays.{IsNext}
-use Rattle.record_replay.proofs.ClashLaws.{DoNotFall, StandsAt, at, in_at_place, stands}
+use Rattle.record_replay.proofs.ClashLaws.{DoNotFall, at, in_at_place, stands}
 use Rattle.record_replay.proofs.OrderLaws.{at_place, in_order, in_records, length-records_at, rising_at, seq_of-at}
 use Rattle.record_replay.proofs.SameFacts.{Agree-same, IsNext-same}
 
@@ -29,8 +29,8 @@ module _ (facts others : Record → Type 0) (r : Record) (there : (x : Record) �
   touched : (m : Entries) (k : Key) → ((x : Record) → facts x → seq_of x ≤ seq_of r) → touches (command_of r) k ≡ true → RestartsTo others k (map.get (maps_after (command_of r) m) k)
   touched m k above t =
       inl (r, record { fact = here; touching = t; greatest = greatest }, get-maps_after (command_of r) m k ∙ ap (λ (b : Bool). cond b (state_of (command_of r)) (map.get m k)) t) where
-    greatest : (other : Record) → others other → touches (command_of other) k ≡ true → seq_of other ≤ seq_of r
-    greatest other o u = elim (either other o) [ inl f ↦ above other f | inr e ↦ omega (arith, ap seq_of e) ]
+        greatest : (other : Record) → others other → touches (command_of other) k ≡ true → seq_of other ≤ seq_of r
+        greatest other o u = elim (either other o) [ inl f ↦ above other f | inr e ↦ omega (arith, ap seq_of e) ]
 
   same_touch : (x : Record) (k : Key) → x ≡ r → touches (command_of r) k ≡ false → touches (command_of x) k ≡ false
   same_touch x k e t = ap (λ (y : Record). touches (command_of y) k) e ∙ t
@@ -134,8 +134,7 @@ module _ (rs : List Record) (n : ℕ) (within : n < length rs) where
 -- all of them are played
 played_all : (rs : List Record) (n : ℕ) (m : Entries) (next : ℕ) → length rs ≤ n → IsPlayed rs n m next → IsRestartOf (λ r. IsIn r rs) m × IsNext (λ r. IsIn r rs) next
 played_all rs n m next all h =
-    let whole = take_all n rs all in
-    (
+    let whole = take_all n rs all in (
       subst (λ (xs : List Record). IsRestartOf (λ r. IsIn r xs) m) whole h.restart,
       subst (λ (xs : List Record). IsNext (λ r. IsIn r xs) next) whole h.follows,
     )

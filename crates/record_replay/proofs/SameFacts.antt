@@ -1,8 +1,7 @@
 -- What is told of facts is told of facts that are the same.
-use Rattle.std.specs.Prelude.{◌≡◌, ◌≢◌, ℕ, ◌+◌}
+use Rattle.std.specs.Prelude.{ℕ}
 use Rattle.std.proofs.Common.{inl, inr}
 use Rattle.record_format.specs.declared.record.Record.{Record}
-use Rattle.record_format.specs.Spelling.{seq_of}
 use Rattle.crash_law.specs.Restarts.{Agree}
 use Rattle.record_replay.specs.Replays.{ClashesAt, FollowsFact, IsFirstClash, IsNext}
 
@@ -19,14 +18,24 @@ module _ (facts others : Record → Type 0) (there : (r : Record) → facts r �
 
   clash_there : (seq : ℕ) → ClashesAt facts seq → ClashesAt others seq
   clash_there seq c = record {
-    one = c.one; other = c.other; fact = there c.one c.fact; other_fact = there c.other c.other_fact;
-    number = c.number; other_number = c.other_number; differ = c.differ;
+    one = c.one;
+    other = c.other;
+    fact = there c.one c.fact;
+    other_fact = there c.other c.other_fact;
+    number = c.number;
+    other_number = c.other_number;
+    differ = c.differ;
   }
 
   clash_back : (seq : ℕ) → ClashesAt others seq → ClashesAt facts seq
   clash_back seq c = record {
-    one = c.one; other = c.other; fact = back c.one c.fact; other_fact = back c.other c.other_fact;
-    number = c.number; other_number = c.other_number; differ = c.differ;
+    one = c.one;
+    other = c.other;
+    fact = back c.one c.fact;
+    other_fact = back c.other c.other_fact;
+    number = c.number;
+    other_number = c.other_number;
+    differ = c.differ;
   }
 
   pub IsFirstClash-same : (seq : ℕ) → IsFirstClash facts seq → IsFirstClash others seq

@@ -61,10 +61,7 @@ fn is_same(one: &Record, other: &Record) -> bool
                 value: other_value,
             },
         ) => {
-            seq == other_seq
-                && prefix == other_prefix
-                && key == other_key
-                && value == other_value
+            seq == other_seq && prefix == other_prefix && key == other_key && value == other_value
         }
         (
             Record::Tomb { seq, prefix, key },

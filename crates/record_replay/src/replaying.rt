@@ -11,12 +11,11 @@ ghost use Rattle.record_replay.specs.declared.replaying.ReplayRefusal.TheVariant
 
 use crate::found::FoundRecords;
 use crate::order::{first_clash, order_of};
+pub use crate::play::Replayed;
 use crate::play::play_all;
 use hr_base::{Memory, Seq};
 use std::alloc::Global;
 use thiserror::Error;
-
-pub use crate::play::Replayed;
 
 /// Why records were not replayed.
 #[derive(Clone, Copy, Debug, PartialEq, Eq, Error)]

@@ -134,12 +134,7 @@ fn spelled(alloc: Global, kind: Kind, lines: &[Line]) -> Result<Vec<u8>, AllocEr
 }
 
 /// Adds the records of one kind of file.
-fn add_file(
-    alloc: Global,
-    found: &mut FoundRecords,
-    kind: Kind,
-    lines: &[Line],
-) -> Result<(), Fail>
+fn add_file(alloc: Global, found: &mut FoundRecords, kind: Kind, lines: &[Line]) -> Result<(), Fail>
     requires { All IsRecord (records_of found.old) }
     ensures { OnOk result (All IsRecord (records_of found.new)) }
 {

@@ -1,5 +1,4 @@
-use Rattle.std.proofs.Common.{◌≡◌, ◌+◌, ◌-◌, ◌<◌, ℕ, length, sym, ap, ◌∙◌, subst, arith, true≢false, slice_index_or}
-use Rattle.record_format.specs.declared.record.Record.{Record}
+use Rattle.std.proofs.Common.{◌≡◌, ◌-◌, ◌<◌, ℕ, length, sym, ap, ◌∙◌, subst, arith, true≢false, slice_index_or}
 use Rattle.record_format.specs.Spelling.{seq_of}
 use Rattle.crash_law.specs.Numbered.{IsIn}
 use Rattle.crash_law.specs.Placed.{Placed, records_of}

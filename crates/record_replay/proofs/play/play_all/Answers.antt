@@ -1,4 +1,4 @@
-use Rattle.std.proofs.Common.{◌≡◌, ◌+◌, ◌<◌, ℕ, List, length, ap, ◌∙◌, arith, rules, slice_index_or, slice_set, Vec, Global}
+use Rattle.std.proofs.Common.{◌≡◌, ◌+◌, ◌<◌, List, length, ap, ◌∙◌, arith, rules, slice_index_or, slice_set, Vec, Global}
 use Rattle.std.proofs.lemmas.List.{length-map, with_items_is}
 use Rattle.crash_law.specs.Commands.{command_of, maps_after}
 use Rattle.ram_map.specs.Maps.{Maps}
@@ -6,7 +6,7 @@ use Rattle.record_replay.specs.Orders.{left_behind}
 use Rattle.record_replay.proofs.ClashLaws.{at}
 use Rattle.crash_law.specs.Placed.{Placed, records_of}
 use Rattle.record_replay.proofs.OrderLaws.{entry_at}
-use Rattle.record_replay.proofs.PlayLaws.{next_underway, restart_underway, underway_again, underway_below, underway_first, underway_more, underway_place, underway_same}
+use Rattle.record_replay.proofs.PlayLaws.{next_underway, restart_underway, underway_again, underway_first, underway_more, underway_place, underway_same}
 use Rattle.record_replay.proofs.play.play_all.Goals as goal
 use Rattle.record_replay.proofs.play.play_all.Goals.{then-number-next+in_ok-play, else-number-next}
 
@@ -17,9 +17,13 @@ pub take_record-requires : goal.take_record-requires
 take_record-requires c =
     let e = slice_index_or c.args.order.now c.loop-number.number-index (0, 0) in
     let within : c.loop-number.number-index < length c.args.order.now = omega arith in
-    omega (arith, underway_place (records_of c.args.list.items) c.args.order.now c.requires.order c.requires.records (records_of c.loop-number.list.items)
-    c.loop-number.number-index c.loop-number.map.entries c.loop-number.next c.loop-number.invariant e within (entry_at c.args.order.now c.loop-number.number-index within),
-    length-map c.loop-number.list.items (λ (x : Placed). x.content), ap (λ (l : _). length l) c.deref_mut.ensures.value)
+    omega (
+      arith,
+      underway_place (records_of c.args.list.items) c.args.order.now c.requires.order c.requires.records (records_of c.loop-number.list.items)
+          c.loop-number.number-index c.loop-number.map.entries c.loop-number.next c.loop-number.invariant e within (entry_at c.args.order.now c.loop-number.number-index within),
+      length-map c.loop-number.list.items (λ (x : Placed). x.content),
+      ap (λ (l : _). length l) c.deref_mut.ensures.value,
+    )
 
 pub loop-number-preserved : goal.loop-number-preserved
 loop-number-preserved c =

@@ -1,6 +1,5 @@
-use Rattle.std.proofs.Common.{◌≡◌, ℕ, List, length, sym, ap, ◌∙◌, subst, rules}
+use Rattle.std.proofs.Common.{◌≡◌, List, subst, rules}
 use Rattle.hr_base.specs.declared.name.Seq.{Seq}
-use Rattle.record_format.specs.declared.record.Record.{Record}
 use Rattle.record_format.specs.Spelling.{IsRecord}
 use Rattle.crash_law.specs.Placed.{Placed, records_of}
 use Rattle.std.proofs.lemmas.List.Elements.{All-contains}
