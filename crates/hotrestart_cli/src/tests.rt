@@ -17,7 +17,7 @@ use std::process::Abort;
 use std::test::Fail;
 
 /// The first chunk of values.
-const V1: ChunkName = ChunkName {
+const VALUES: ChunkName = ChunkName {
     partition: Partition(0),
     kind: Kind::V,
     number: ChunkNo(1),

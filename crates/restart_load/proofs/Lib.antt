@@ -1,1 +1,2 @@
 pub mod TakingLaws
+pub mod ListedLaws
