@@ -4,14 +4,14 @@ use Rattle.std.proofs.lemmas.Bool.{cases_Bool, or_from, or_parts, false≢true, 
 use Rattle.std.specs.declared.alloc.Global.{Global}
 use Rattle.hr_base.specs.declared.name.ChunkName.{ChunkName}
 use Rattle.hr_base.specs.NameTests.{is_name}
-use Rattle.hr_base.proofs.NameTestLaws.{is_name-true, is_name-same}
+use Rattle.hr_base.proofs.NameTestLaws.{is_name-true, is_name-same, is_name-other}
 use Rattle.mem_folder.specs.declared.chain.Entry.{Entry}
 use Rattle.mem_folder.specs.declared.chain.Slot.{Slot}
 use Rattle.mem_folder.specs.declared.chain.Chain.{Chain}
 use Rattle.mem_folder.specs.declared.chain.Link.{Link}
 use Rattle.mem_folder.specs.declared.chain.Link.TheVariants.{End, More}
 use Rattle.mem_folder.specs.Links.{slots_of, IsTidy}
-use Rattle.mem_folder.specs.Memory.{blank, joined, synced_entry, entry_at, has_name, merged, synced_slots}
+use Rattle.mem_folder.specs.Memory.{blank, joined, lent_entry, synced_entry, entry_at, has_name, ChangesEntry, merged, synced_slots}
 use Rattle.mem_folder.proofs.Entries.{joined-blank, blank-joined}
 
 -- the test does not depend on the order
@@ -186,3 +186,41 @@ merged_behind slots rest new known slot is past behind =
 pub has_name-none : (slots : List Slot) (name : ChunkName) → slots ≡ [] → has_name slots name ≡ false
 unfolding has_name
 has_name-none slots name is = ap (λ (s : List Slot). has_name s name) is
+
+-- a chain whose first node gave out its file
+pub lent_here : (slots rest : List Slot) (slot : Slot) (name : ChunkName) (entry : Entry) → slots ≡ slot ∷ rest → is_name name slot.name ≡ true → entry ≡ lent_entry slot.entry → ChangesEntry slots (record { name = slot.name; entry = entry } ∷ rest) name (lent_entry (entry_at slots name))
+unfolding has_name
+lent_here slots rest slot name entry is here lent =
+    let new : Slot = record { name = slot.name; entry = entry } in
+    record {
+      entries = record {
+        at =
+            entry_at-here name new rest here
+            ∙ lent
+            ∙ ap lent_entry (sym (ap (λ (s : List Slot). entry_at s name) is ∙ entry_at-here name slot rest here));
+        others = λ other differ.
+            let past : is_name other slot.name ≡ false = subst (λ (x : ChunkName). is_name other x ≡ false) (is_name-true name slot.name here) (is_name-other other name differ) in
+            entry_at-past other new rest past ∙ sym (ap (λ (s : List Slot). entry_at s other) is ∙ entry_at-past other slot rest past);
+      };
+      names = λ other. sym (ap (λ (s : List Slot). has_name s other) is);
+    }
+
+-- a chain with a node behind that gave out its file
+pub lent_behind : (slots rest new : List Slot) (slot : Slot) (name : ChunkName) → slots ≡ slot ∷ rest → is_name name slot.name ≡ false → ChangesEntry rest new name (lent_entry (entry_at rest name)) → ChangesEntry slots (slot ∷ new) name (lent_entry (entry_at slots name))
+unfolding has_name
+lent_behind slots rest new slot name is past changes = record {
+  entries = record {
+    at =
+        entry_at-past name slot new past
+        ∙ changes.entries.at
+        ∙ ap lent_entry (sym (ap (λ (s : List Slot). entry_at s name) is ∙ entry_at-past name slot rest past));
+    others = λ other differ. elim (cases_Bool (is_name other slot.name)) [
+      | inl here ↦ entry_at-here other slot new here ∙ sym (ap (λ (s : List Slot). entry_at s other) is ∙ entry_at-here other slot rest here)
+      | inr behind ↦
+          entry_at-past other slot new behind
+          ∙ changes.entries.others other differ
+          ∙ sym (ap (λ (s : List Slot). entry_at s other) is ∙ entry_at-past other slot rest behind)
+    ];
+  };
+  names = λ other. ap (λ (b : Bool). is_name other slot.name || b) (changes.names other) ∙ sym (ap (λ (s : List Slot). has_name s other) is);
+}

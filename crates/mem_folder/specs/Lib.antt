@@ -1,3 +1,4 @@
 pub mod Plans
 pub mod Memory
 pub mod Links
+pub mod Moves

@@ -1,10 +1,10 @@
 //! What a port in memory knows of each name, in a chain of nodes that grows by nodes made elsewhere.
 
-ghost use Rattle.std.specs.Prelude.{◌≡◌, ◌∷◌, ◌++◌, [], None, Some, IfOk, OnOk, MatchOption, if◌then◌else◌};
+ghost use Rattle.std.specs.Prelude.{◌≡◌, ◌∷◌, ◌++◌, [], None, Some, IfOk, IsSome, OnOk, MatchOption, if◌then◌else◌};
 ghost use Rattle.dir_files.specs.Files.{FileState, new_file, named_file};
 ghost use Rattle.dir_files.specs.Ports.{IsListing, either_file};
 ghost use Rattle.mem_folder.specs.Links.{slots_of, IsTidy};
-ghost use Rattle.mem_folder.specs.Memory.{blank, created_entry, returned_entry, joined, synced_entry, entry_at, merged, synced_slots, held_names, port_of};
+ghost use Rattle.mem_folder.specs.Memory.{blank, created_entry, returned_entry, removed_entry, lent_entry, joined, synced_entry, entry_at, ChangesEntry, merged, synced_slots, held_names, port_of};
 ghost use Rattle.hr_base.specs.NameTests.{is_name};
 ghost use Rattle.hr_base.specs.Names.{IsChunkName};
 
@@ -87,12 +87,8 @@ fn either(first: Option<Content>, second: Option<Content>) -> Option<Content>
     }
 }
 
-/// The first removed file, or the second where there is no first and no file came in its place.
-fn either_removed(
-    replaced: bool,
-    first: Option<Content>,
-    second: Option<Content>,
-) -> Option<Content>
+/// The first file, or the second where there is no first and nothing came in its place.
+fn either_unless(replaced: bool, first: Option<Content>, second: Option<Content>) -> Option<Content>
     ensures { result ≡ (if replaced then first else either_file first second) }
 {
     if replaced {
@@ -141,6 +137,31 @@ impl Entry {
         }
     }
 
+    /// Of a name whose handle comes back, and whose file was removed.
+    pub fn removed(content: Content) -> Entry
+        ensures { result ≡ removed_entry content }
+    {
+        Entry {
+            held: None,
+            gone: Some(content),
+            lent: false,
+            foreign: true,
+            created: false,
+            fixed: false,
+        }
+    }
+
+    /// Gives out the held file.
+    pub fn lend(&mut self) -> Content
+        requires { IsSome self.old.held }
+        ensures content { Some result ≡ self.old.held }
+        ensures lent { self.new ≡ lent_entry self.old }
+    {
+        let content = self.held.take().unwrap();
+        self.lent = true;
+        content
+    }
+
     /// Takes in what is known of the name elsewhere, or has just become known.
     pub fn join(&mut self, newer: Entry)
         ensures { self.new ≡ joined newer self.old }
@@ -153,8 +174,9 @@ impl Entry {
             created,
             fixed,
         } = newer;
-        self.gone = either_removed(held.is_some(), gone, self.gone.take());
-        self.held = either(held, self.held.take());
+        let came = held.is_some();
+        self.held = either_unless(gone.is_some(), held, self.held.take());
+        self.gone = either_unless(came, gone, self.gone.take());
         self.created = created || self.created;
         self.fixed = fixed && !self.foreign || self.fixed && !foreign;
         let here = self.lent;
@@ -229,6 +251,24 @@ impl Chain {
                     known.entry.join(slot.entry);
                 } else {
                     rest.merge(slot, spare);
+                }
+            }
+        }
+    }
+
+    /// Gives out the held file of a name.
+    pub fn lend(&mut self, name: ChunkName) -> Content
+        requires { IsSome (entry_at self.old name).held }
+        ensures content { Some result ≡ (entry_at self.old name).held }
+        ensures lent { ChangesEntry self.old self.new name (lent_entry (entry_at self.old name)) }
+    {
+        match &mut self.link {
+            Link::End => unreachable!(),
+            Link::More(slot, rest) => {
+                if is_same(name, slot.name) {
+                    slot.entry.lend()
+                } else {
+                    rest.lend(name)
                 }
             }
         }
