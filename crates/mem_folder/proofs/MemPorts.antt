@@ -3,13 +3,13 @@ use Rattle.std.proofs.Common.{◌≡◌, Bool, true, false, ◌&&◌, ◌||◌, 
 use Rattle.hr_base.specs.declared.name.ChunkName.{ChunkName}
 use Rattle.std.proofs.lemmas.Bool.{cases_Bool}
 use Rattle.hr_base.specs.NameTests.{is_name}
-use Rattle.hr_base.proofs.NameTestLaws.{is_name-true, is_name-false, is_name-same, is_name-other}
+use Rattle.hr_base.proofs.NameTestLaws.{is_name-true, is_name-false}
 use Rattle.mem_folder.specs.declared.chain.Entry.{Entry}
 use Rattle.mem_folder.specs.declared.chain.Slot.{Slot}
 use Rattle.dir_files.specs.Files.{FileState, ChangesAt, SameAt}
 use Rattle.dir_files.specs.Ports.{IsEmptyPort, IsFreeName, Takes, Creates, Gives, Removes, SyncsNames}
-use Rattle.mem_folder.specs.Memory.{joined, created_entry, lent_entry, returned_entry, removed_entry, synced_entry, entry_at, merged, synced_slots, port_of}
-use Rattle.mem_folder.proofs.Slots.{entry_at-merged, entry_at-merged_other, entry_at-synced}
+use Rattle.mem_folder.specs.Memory.{joined, created_entry, lent_entry, returned_entry, removed_entry, synced_entry, entry_at, Merges, synced_slots, port_of}
+use Rattle.mem_folder.proofs.Slots.{entry_at-synced}
 
 empty_port : IsEmptyPort (port_of [])
 unfolding entry_at
@@ -18,14 +18,6 @@ empty_port = record { held = λ name. refl; gone = λ name. refl; lent = λ name
 -- no slot, no file and no name
 pub IsEmptyPort-empty : (slots : List Slot) → slots ≡ [] → IsEmptyPort (port_of slots)
 IsEmptyPort-empty slots is = subst (λ (s : List Slot). IsEmptyPort (port_of s)) (sym is) empty_port
-
--- a merge changes what is known of its name
-pub merged_changes : (old new : List Slot) (slot : Slot) → new ≡ merged old slot → ChangesAt (entry_at old) (entry_at new) slot.name (joined slot.entry (entry_at old slot.name))
-merged_changes old new slot merges = record {
-  at = ap (λ (s : List Slot). entry_at s slot.name) merges ∙ entry_at-merged old slot slot.name (is_name-same slot.name);
-  others = λ other differ.
-      ap (λ (s : List Slot). entry_at s other) merges ∙ entry_at-merged_other old slot other (is_name-other other slot.name differ);
-}
 
 module _ (old new : List Slot) (name : ChunkName) (entry : Entry) (changes : ChangesAt (entry_at old) (entry_at new) name entry) where
   -- a part of the entries changes at the name alone
@@ -58,10 +50,10 @@ lent_or_foreign true false = refl
 lent_or_foreign false true = refl
 lent_or_foreign false false = refl
 
--- the same where the name and the entry of the slot are known
-pub merged_changes_as : (old new : List Slot) (slot : Slot) (name : ChunkName) (entry : Entry) → new ≡ merged old slot → slot.name ≡ name → slot.entry ≡ entry → ChangesAt (entry_at old) (entry_at new) name (joined entry (entry_at old name))
-merged_changes_as old new slot name entry merges same is =
-    let at_name = subst (λ (n : ChunkName). ChangesAt (entry_at old) (entry_at new) n (joined slot.entry (entry_at old n))) same (merged_changes old new slot merges) in
+-- a merge changes what is known of its name
+pub merged_changes : (old new : List Slot) (slot : Slot) (name : ChunkName) (entry : Entry) → Merges old new slot → slot.name ≡ name → slot.entry ≡ entry → ChangesAt (entry_at old) (entry_at new) name (joined entry (entry_at old name))
+merged_changes old new slot name entry merges same is =
+    let at_name = subst (λ (n : ChunkName). ChangesAt (entry_at old) (entry_at new) n (joined slot.entry (entry_at old n))) same merges.entries in
     subst (λ (x : Entry). ChangesAt (entry_at old) (entry_at new) name (joined x (entry_at old name))) is at_name
 
 module _ (old new : List Slot) (name : ChunkName) where

@@ -66,11 +66,10 @@ pub record ChangesEntry (old new : List Slot) (name : ChunkName) (entry : Entry)
   pub entries : ChangesAt (entry_at old) (entry_at new) name entry
   pub names : (other : ChunkName) → has_name new other ≡ has_name old other
 
--- with what has become known of one name
-unfoldable pub merged : List Slot → Slot → List Slot
-merged [] slot = slot ∷ []
-merged (known ∷ slots) slot =
-    if is_name known.name slot.name then record { name = known.name; entry = joined slot.entry known.entry } ∷ slots else known ∷ merged slots slot
+-- something has become known of one name, and all else stays
+pub record Merges (old new : List Slot) (slot : Slot) : Type 0 where
+  pub entries : ChangesAt (entry_at old) (entry_at new) slot.name (joined slot.entry (entry_at old slot.name))
+  pub names : (other : ChunkName) → has_name new other ≡ (is_name other slot.name || has_name old other)
 
 -- after a directory sync
 unfoldable pub synced_slots : List Slot → List Slot

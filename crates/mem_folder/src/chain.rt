@@ -1,16 +1,21 @@
 //! What a port in memory knows of each name, in a chain of nodes that grows by nodes made elsewhere.
 
-ghost use Rattle.std.specs.Prelude.{◌≡◌, ◌∷◌, ◌++◌, [], None, Some, IfOk, IsSome, OnOk, MatchOption, if◌then◌else◌};
+ghost use Rattle.std.specs.Prelude.{◌≡◌, ◌∷◌, ◌++◌, [], true, None, Some, IfOk, IsSome, OnOk, MatchOption, if◌then◌else◌};
+ghost use Rattle.std.specs.Ordering.{nat_cmp};
+ghost use Rattle.std.specs.Cmp.Lexicographic.{slice_cmp};
+ghost use Rattle.hr_base.specs.declared.name.ChunkName.{ChunkName};
 ghost use Rattle.dir_files.specs.Files.{FileState, new_file, named_file};
 ghost use Rattle.dir_files.specs.Ports.{IsListing, either_file};
 ghost use Rattle.mem_folder.specs.Links.{slots_of, IsTidy};
-ghost use Rattle.mem_folder.specs.Memory.{blank, created_entry, returned_entry, removed_entry, lent_entry, joined, synced_entry, entry_at, ChangesEntry, merged, synced_slots, held_names, port_of};
+ghost use Rattle.mem_folder.specs.Memory.{blank, created_entry, returned_entry, removed_entry, lent_entry, joined, synced_entry, entry_at, has_name, ChangesEntry, Merges, synced_slots, held_names, port_of};
 ghost use Rattle.hr_base.specs.NameTests.{is_name};
-ghost use Rattle.hr_base.specs.Names.{IsChunkName};
+ghost use Rattle.hr_base.specs.Names.{IsChunkName, name_text};
+ghost use Rattle.mem_folder.specs.Orders.{ComesBefore};
 
 use crate::content::Content;
 use hr_base::ChunkName;
 use std::alloc::{AllocError, Global};
+use std::cmp::Ordering;
 use std::marker::Model;
 
 /// What a port knows of one name.
@@ -37,7 +42,7 @@ pub struct Slot {
     pub entry: Entry,
 }
 
-/// The names that a port knows, each once.
+/// The names that a port knows, each once, in the order of their texts.
 #[cycle(chain)]
 #[derive(Debug, Drop)]
 pub struct Chain {
@@ -77,6 +82,15 @@ fn is_same(first: ChunkName, second: ChunkName) -> bool
     first == second
 }
 
+/// How the texts of two names compare.
+fn order_of(first: ChunkName, second: ChunkName) -> Ordering
+    requires first { IsChunkName first }
+    requires second { IsChunkName second }
+    ensures { result ≡ slice_cmp nat_cmp (name_text first) (name_text second) }
+{
+    first.cmp(&second)
+}
+
 /// The first file, or the second where there is no first.
 fn either(first: Option<Content>, second: Option<Content>) -> Option<Content>
     ensures { result ≡ either_file first second }
@@ -96,16 +110,6 @@ fn either_unless(replaced: bool, first: Option<Content>, second: Option<Content>
     } else {
         either(first, second)
     }
-}
-
-/// A link to the last node of a chain.
-fn last_link(slot: Slot, mut node: Box<Chain>) -> Link
-    requires { IsChunkName slot.name }
-    ensures slots { slots_of result ≡ slot ∷ [] }
-    ensures tidy { IsTidy result }
-{
-    *node = Chain::empty();
-    Link::More(slot, node)
 }
 
 impl Entry {
@@ -239,20 +243,28 @@ impl Chain {
         }
     }
 
+    /// Puts a node in front.
+    fn begin_with(&mut self, slot: Slot, mut spare: Box<Chain>)
+        requires valid { IsChunkName slot.name }
+        requires first { (other : ChunkName) → has_name self.old other ≡ true → ComesBefore slot.name other }
+        ensures { self.new ≡ slot ∷ self.old }
+    {
+        *spare = std::mem::replace(self, Chain::empty());
+        self.link = Link::More(slot, spare);
+    }
+
     /// Takes in what is known of a name. The spare node is used where the name was not known.
     pub fn merge(&mut self, slot: Slot, spare: Box<Chain>)
         requires { IsChunkName slot.name }
-        ensures { self.new ≡ merged self.old slot }
+        ensures { Merges self.old self.new slot }
     {
         match &mut self.link {
-            Link::End => self.link = last_link(slot, spare),
-            Link::More(known, rest) => {
-                if is_same(known.name, slot.name) {
-                    known.entry.join(slot.entry);
-                } else {
-                    rest.merge(slot, spare);
-                }
-            }
+            Link::End => self.begin_with(slot, spare),
+            Link::More(known, rest) => match order_of(slot.name, known.name) {
+                Ordering::Less => self.begin_with(slot, spare),
+                Ordering::Equal => known.entry.join(slot.entry),
+                Ordering::Greater => rest.merge(slot, spare),
+            },
         }
     }
 
