@@ -148,7 +148,12 @@ pub trait Folder: Sized {
 
     /// Moves bytes of a file, from this offset on, to the front of a buffer, and gives how many: 0 for a buffer that is not
     /// empty where the file has no byte there.
-    fn read(&mut self, file: &mut Self::File, at: u64, into: &mut [u8]) -> Result<usize, FolderRefusal>
+    fn read(
+        &mut self,
+        file: &mut Self::File,
+        at: u64,
+        into: &mut [u8],
+    ) -> Result<usize, FolderRefusal>
         ensures bound { IfOk result (λ count. count ≤ length into.new) }
         ensures given { tells ≡ true → IfOk result (λ count. IsReadAt (state file.old).bytes at into.new count) }
         ensures file { tells ≡ true → state file.new ≡ state file.old }

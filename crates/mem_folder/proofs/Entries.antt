@@ -10,9 +10,9 @@ pub either_file-none : (file : Option FileState) → either_file file None ≡ f
 either_file-none None = refl
 either_file-none (Some file) = refl
 
-pub either_removed-none : (held removed : Option FileState) → (if is_some held then removed else either_file removed None) ≡ removed
-either_removed-none None removed = either_file-none removed
-either_removed-none (Some file) removed = refl
+pub either_unless-none : (replaced : Bool) (file : Option FileState) → (if replaced then file else either_file file None) ≡ file
+either_unless-none false file = either_file-none file
+either_unless-none true file = refl
 
 -- a test that is joined with nothing
 pub settled_with_none : (here there : Bool) → ((here && not false) || (false && not there)) ≡ here
@@ -40,7 +40,7 @@ same_entry a b held gone lent foreign created fixed =
 -- joining with nothing known changes nothing
 pub joined-blank : (entry : Entry) → joined entry blank ≡ entry
 joined-blank entry =
-    same_entry (joined entry blank) entry (either_file-none entry.held) (either_removed-none entry.held entry.gone) (settled_with_none entry.lent entry.foreign) (settled_with_none entry.foreign entry.lent) (or_none entry.created) (settled_with_none entry.fixed entry.foreign)
+    same_entry (joined entry blank) entry (either_unless-none (is_some entry.gone) entry.held) (either_unless-none (is_some entry.held) entry.gone) (settled_with_none entry.lent entry.foreign) (settled_with_none entry.foreign entry.lent) (or_none entry.created) (settled_with_none entry.fixed entry.foreign)
 
 pub blank-joined : (entry : Entry) → joined blank entry ≡ entry
 blank-joined entry =

@@ -4,15 +4,17 @@ use Rattle.std.proofs.lemmas.Bool.{cases_Bool, or_from, or_parts, false≢true, 
 use Rattle.std.specs.declared.alloc.Global.{Global}
 use Rattle.hr_base.specs.declared.name.ChunkName.{ChunkName}
 use Rattle.hr_base.specs.NameTests.{is_name}
-use Rattle.hr_base.proofs.NameTestLaws.{is_name-true, is_name-same}
+use Rattle.hr_base.proofs.NameTestLaws.{is_name-true, is_name-false, is_name-same, is_name-other}
 use Rattle.mem_folder.specs.declared.chain.Entry.{Entry}
 use Rattle.mem_folder.specs.declared.chain.Slot.{Slot}
 use Rattle.mem_folder.specs.declared.chain.Chain.{Chain}
 use Rattle.mem_folder.specs.declared.chain.Link.{Link}
 use Rattle.mem_folder.specs.declared.chain.Link.TheVariants.{End, More}
 use Rattle.mem_folder.specs.Links.{slots_of, IsTidy}
-use Rattle.mem_folder.specs.Memory.{blank, joined, synced_entry, entry_at, has_name, merged, synced_slots}
+use Rattle.mem_folder.specs.Memory.{blank, joined, lent_entry, synced_entry, entry_at, has_name, ChangesEntry, Merges, synced_slots}
+use Rattle.mem_folder.specs.Orders.{ComesBefore}
 use Rattle.mem_folder.proofs.Entries.{joined-blank, blank-joined}
+use Rattle.mem_folder.proofs.Orders.{before_itself, before_chain}
 
 -- the test does not depend on the order
 pub is_name-back : (a b : ChunkName) → is_name a b ≡ true → is_name b a ≡ true
@@ -44,88 +46,112 @@ entry_at-absent (slot ∷ slots) name absent =
     let parts = or_parts (is_name name slot.name) (has_name slots name) absent in
     entry_at-past name slot slots parts.0 ∙ entry_at-absent slots name parts.1
 
-module _ (known : Slot) (slots : List Slot) (slot : Slot) where
-  -- where the name is first, that slot changes
-  pub merged-here : is_name known.name slot.name ≡ true → merged (known ∷ slots) slot ≡ record { name = known.name; entry = joined slot.entry known.entry } ∷ slots
-  unfolding merged
-  merged-here here = ap (λ (b : Bool). cond b (record { name = known.name; entry = joined slot.entry known.entry } ∷ slots) (known ∷ merged slots slot)) here
+-- what comes before all names of the slots is none of them
+pub first_absent : (slots : List Slot) (name : ChunkName) → ((other : ChunkName) → has_name slots other ≡ true → ComesBefore name other) → has_name slots name ≡ false
+first_absent slots name first =
+    false_from_ne_true (has_name slots name) (λ there. before_itself name (first name there))
 
-  -- where it is not, the slots behind change
-  pub merged-past : is_name known.name slot.name ≡ false → merged (known ∷ slots) slot ≡ known ∷ merged slots slot
-  unfolding merged
-  merged-past past = ap (λ (b : Bool). cond b (record { name = known.name; entry = joined slot.entry known.entry } ∷ slots) (known ∷ merged slots slot)) past
-
--- the merged name has the joined entry
-pub entry_at-merged : (slots : List Slot) (slot : Slot) (name : ChunkName) → is_name name slot.name ≡ true → entry_at (merged slots slot) name ≡ joined slot.entry (entry_at slots name)
-unfolding entry_at merged
-entry_at-merged [] slot name same = entry_at-here name slot [] same ∙ sym (joined-blank slot.entry)
-entry_at-merged (known ∷ slots) slot name same =
-    let new : Slot = record { name = known.name; entry = joined slot.entry known.entry } in
-    elim (cases_Bool (is_name known.name slot.name)) [
-      | inl here ↦
-          let e : known.name ≡ slot.name = is_name-true known.name slot.name here in
-          let at : is_name name known.name ≡ true = subst (λ (x : ChunkName). is_name name x ≡ true) (sym e) same in
-          ap (λ (s : List Slot). entry_at s name) (merged-here known slots slot here)
-          ∙ entry_at-here name new slots at
-          ∙ ap (joined slot.entry) (sym (entry_at-here name known slots at))
-      | inr past ↦
-          let e : slot.name ≡ name = sym (is_name-true name slot.name same) in
-          let at : is_name name known.name ≡ false = is_name-back_false known.name name (subst (λ (x : ChunkName). is_name known.name x ≡ false) e past) in
-          ap (λ (s : List Slot). entry_at s name) (merged-past known slots slot past)
-          ∙ entry_at-past name known (merged slots slot) at
-          ∙ entry_at-merged slots slot name same
-          ∙ ap (joined slot.entry) (sym (entry_at-past name known slots at))
+-- a name that comes before the first comes before all
+pub before_first : (slots rest : List Slot) (known : Slot) (name : ChunkName) → slots ≡ known ∷ rest → ComesBefore name known.name → ((other : ChunkName) → has_name rest other ≡ true → ComesBefore known.name other) → (other : ChunkName) → has_name slots other ≡ true → ComesBefore name other
+unfolding has_name
+before_first slots rest known name is before first other there =
+    let at : has_name (known ∷ rest) other ≡ true = sym (ap (λ (s : List Slot). has_name s other) is) ∙ there in
+    elim (cases_Bool (is_name other known.name)) [
+      | inl here ↦ subst (ComesBefore name) (sym (is_name-true other known.name here)) before
+      | inr past ↦ before_chain name known.name other before (first other (sym (ap (λ (b : Bool). b || has_name rest other) past) ∙ at))
     ]
 
--- the others keep theirs
-pub entry_at-merged_other : (slots : List Slot) (slot : Slot) (name : ChunkName) → is_name name slot.name ≡ false → entry_at (merged slots slot) name ≡ entry_at slots name
-unfolding entry_at merged
-entry_at-merged_other [] slot name other = entry_at-past name slot [] other
-entry_at-merged_other (known ∷ slots) slot name other =
-    let new : Slot = record { name = known.name; entry = joined slot.entry known.entry } in
-    elim (cases_Bool (is_name known.name slot.name)) [
-      | inl here ↦
-          let e : slot.name ≡ known.name = sym (is_name-true known.name slot.name here) in
-          let at : is_name name known.name ≡ false = subst (λ (x : ChunkName). is_name name x ≡ false) e other in
-          ap (λ (s : List Slot). entry_at s name) (merged-here known slots slot here)
-          ∙ entry_at-past name new slots at
-          ∙ sym (entry_at-past name known slots at)
-      | inr past ↦
-          ap (λ (s : List Slot). entry_at s name) (merged-past known slots slot past)
-          ∙ elim (cases_Bool (is_name name known.name)) [
-            | inl at ↦ entry_at-here name known (merged slots slot) at ∙ sym (entry_at-here name known slots at)
-            | inr at ↦ entry_at-past name known (merged slots slot) at ∙ entry_at-merged_other slots slot name other ∙ sym (entry_at-past name known slots at)
-          ]
-    ]
+or_twice : (a b : Bool) → (a || b) ≡ (a || (a || b))
+or_twice true b = refl
+or_twice false b = refl
 
--- a merge adds no name but its own
-pub has_name-merged : (slots : List Slot) (slot : Slot) (name : ChunkName) → is_name name slot.name ≡ false → has_name slots name ≡ false → has_name (merged slots slot) name ≡ false
-unfolding has_name merged
-has_name-merged [] slot name other absent = or_from (is_name name slot.name) false other refl
-has_name-merged (known ∷ slots) slot name other absent =
-    let parts = or_parts (is_name name known.name) (has_name slots name) absent in
-    elim (cases_Bool (is_name known.name slot.name)) [
-      | inl here ↦ ap (λ (s : List Slot). has_name s name) (merged-here known slots slot here) ∙ absent
-      | inr past ↦
-          ap (λ (s : List Slot). has_name s name) (merged-past known slots slot past)
-          ∙ or_from (is_name name known.name) (has_name (merged slots slot) name) parts.0 (has_name-merged slots slot name other parts.1)
+or_swap : (a b c : Bool) → (a || (b || c)) ≡ (b || (a || c))
+or_swap true true c = refl
+or_swap true false c = refl
+or_swap false b c = refl
+
+-- a merge in front of all names
+pub merged_front : (slots : List Slot) (slot : Slot) → ((other : ChunkName) → has_name slots other ≡ true → ComesBefore slot.name other) → Merges slots (slot ∷ slots) slot
+unfolding has_name
+merged_front slots slot first = record {
+  entries = record {
+    at =
+        entry_at-here slot.name slot slots (is_name-same slot.name)
+        ∙ sym (ap (joined slot.entry) (entry_at-absent slots slot.name (first_absent slots slot.name first)) ∙ joined-blank slot.entry);
+    others = λ other differ. entry_at-past other slot slots (is_name-other other slot.name differ);
+  };
+  names = λ other. refl;
+}
+
+-- a merge at the first name
+pub merged_here : (slots rest : List Slot) (known slot : Slot) (entry : Entry) → slots ≡ known ∷ rest → slot.name ≡ known.name → entry ≡ joined slot.entry known.entry → Merges slots (record { name = known.name; entry = entry } ∷ rest) slot
+unfolding has_name
+merged_here slots rest known slot entry is same joins =
+    let new : Slot = record { name = known.name; entry = entry } in
+    let here : is_name slot.name known.name ≡ true = subst (λ (x : ChunkName). is_name slot.name x ≡ true) same (is_name-same slot.name) in
+    record {
+      entries = record {
+        at =
+            entry_at-here slot.name new rest here
+            ∙ joins
+            ∙ ap (joined slot.entry) (sym (ap (λ (s : List Slot). entry_at s slot.name) is ∙ entry_at-here slot.name known rest here));
+        others = λ other differ.
+            let past : is_name other known.name ≡ false = subst (λ (x : ChunkName). is_name other x ≡ false) same (is_name-other other slot.name differ) in
+            entry_at-past other new rest past ∙ sym (ap (λ (s : List Slot). entry_at s other) is ∙ entry_at-past other known rest past);
+      };
+      names = λ other.
+          or_twice (is_name other known.name) (has_name rest other)
+          ∙ ap (λ (x : ChunkName). is_name other x || (is_name other known.name || has_name rest other)) (sym same)
+          ∙ sym (ap (λ (s : List Slot). is_name other slot.name || has_name s other) is);
+    }
+
+-- a merge behind the first name
+pub merged_behind : (slots rest new : List Slot) (known slot : Slot) → slots ≡ known ∷ rest → is_name slot.name known.name ≡ false → Merges rest new slot → Merges slots (known ∷ new) slot
+unfolding has_name
+merged_behind slots rest new known slot is past merges = record {
+  entries = record {
+    at =
+        entry_at-past slot.name known new past
+        ∙ merges.entries.at
+        ∙ ap (joined slot.entry) (sym (ap (λ (s : List Slot). entry_at s slot.name) is ∙ entry_at-past slot.name known rest past));
+    others = λ other differ. elim (cases_Bool (is_name other known.name)) [
+      | inl here ↦ entry_at-here other known new here ∙ sym (ap (λ (s : List Slot). entry_at s other) is ∙ entry_at-here other known rest here)
+      | inr behind ↦
+          entry_at-past other known new behind
+          ∙ merges.entries.others other differ
+          ∙ sym (ap (λ (s : List Slot). entry_at s other) is ∙ entry_at-past other known rest behind)
+    ];
+  };
+  names = λ other.
+      ap (λ (b : Bool). is_name other known.name || b) (merges.names other)
+      ∙ or_swap (is_name other known.name) (is_name other slot.name) (has_name rest other)
+      ∙ sym (ap (λ (s : List Slot). is_name other slot.name || has_name s other) is);
+}
+
+-- a name that comes before one that is merged, and before all others, comes before all
+pub merged_after : (rest new : List Slot) (slot : Slot) (name : ChunkName) → Merges rest new slot → ComesBefore name slot.name → ((other : ChunkName) → has_name rest other ≡ true → ComesBefore name other) → (other : ChunkName) → has_name new other ≡ true → ComesBefore name other
+merged_after rest new slot name merges before first other there =
+    elim (cases_Bool (is_name other slot.name)) [
+      | inl here ↦ subst (ComesBefore name) (sym (is_name-true other slot.name here)) before
+      | inr past ↦ first other (sym (merges.names other ∙ ap (λ (b : Bool). b || has_name rest other) past) ∙ there)
     ]
 
 -- all that the slots of one chain know, taken into another chain one by one
-pub entry_at-absorbed : (slot : Slot) (slots old new : List Slot) → has_name slots slot.name ≡ false → ((name : ChunkName) → entry_at new name ≡ joined (entry_at slots name) (entry_at (merged old slot) name)) → (name : ChunkName) → entry_at new name ≡ joined (entry_at (slot ∷ slots) name) (entry_at old name)
-entry_at-absorbed slot slots old new absent rest name =
+pub entry_at-absorbed : (slot : Slot) (slots old mid new : List Slot) → has_name slots slot.name ≡ false → Merges old mid slot → ((name : ChunkName) → entry_at new name ≡ joined (entry_at slots name) (entry_at mid name)) → (name : ChunkName) → entry_at new name ≡ joined (entry_at (slot ∷ slots) name) (entry_at old name)
+entry_at-absorbed slot slots old mid new absent merges rest name =
     elim (cases_Bool (is_name name slot.name)) [
       | inl same ↦
           let e : slot.name ≡ name = sym (is_name-true name slot.name same) in
           let unknown : entry_at slots name ≡ blank = entry_at-absent slots name (subst (λ (x : ChunkName). has_name slots x ≡ false) e absent) in
+          let at : entry_at mid name ≡ joined slot.entry (entry_at old name) = subst (λ (x : ChunkName). entry_at mid x ≡ joined slot.entry (entry_at old x)) e merges.entries.at in
           rest name
-          ∙ ap (λ (x : Entry). joined x (entry_at (merged old slot) name)) unknown
-          ∙ blank-joined (entry_at (merged old slot) name)
-          ∙ entry_at-merged old slot name same
+          ∙ ap (λ (x : Entry). joined x (entry_at mid name)) unknown
+          ∙ blank-joined (entry_at mid name)
+          ∙ at
           ∙ ap (λ (x : Entry). joined x (entry_at old name)) (sym (entry_at-here name slot slots same))
       | inr other ↦
           rest name
-          ∙ ap (λ (x : Entry). joined (entry_at slots name) x) (entry_at-merged_other old slot name other)
+          ∙ ap (λ (x : Entry). joined (entry_at slots name) x) (merges.entries.others name (is_name-false name slot.name other))
           ∙ ap (λ (x : Entry). joined x (entry_at old name)) (sym (entry_at-past name slot slots other))
     ]
 
@@ -167,22 +193,44 @@ pub synced_end : (slots : List Slot) → slots ≡ [] → [] ≡ synced_slots sl
 unfolding synced_slots
 synced_end slots is = sym (ap synced_slots is)
 
-pub merged_end : (slots : List Slot) (slot : Slot) → slots ≡ [] → slot ∷ [] ≡ merged slots slot
-unfolding merged
-merged_end slots slot is = sym (ap (λ (s : List Slot). merged s slot) is)
-
-pub merged_first : (slots rest : List Slot) (known slot : Slot) (entry : Entry) → slots ≡ known ∷ rest → is_name known.name slot.name ≡ true → entry ≡ joined slot.entry known.entry → record { name = known.name; entry = entry } ∷ rest ≡ merged slots slot
-merged_first slots rest known slot entry is here joins =
-    ap (λ (e : Entry). let s : Slot = record { name = known.name; entry = e } in s ∷ rest) joins
-    ∙ sym (merged-here known rest slot here)
-    ∙ sym (ap (λ (s : List Slot). merged s slot) is)
-
-pub merged_behind : (slots rest new : List Slot) (known slot : Slot) → slots ≡ known ∷ rest → is_name known.name slot.name ≡ false → new ≡ merged rest slot → known ∷ new ≡ merged slots slot
-merged_behind slots rest new known slot is past behind =
-    ap (λ (s : List Slot). known ∷ s) behind
-    ∙ sym (merged-past known rest slot past)
-    ∙ sym (ap (λ (s : List Slot). merged s slot) is)
-
-pub has_name-none : (slots : List Slot) (name : ChunkName) → slots ≡ [] → has_name slots name ≡ false
+pub none_has_name : (slots : List Slot) (name : ChunkName) → slots ≡ [] → has_name slots name ≡ true → ⊥
 unfolding has_name
-has_name-none slots name is = ap (λ (s : List Slot). has_name s name) is
+none_has_name slots name is there = false≢true (sym (ap (λ (s : List Slot). has_name s name) is) ∙ there)
+
+-- a chain whose first node gave out its file
+pub lent_here : (slots rest : List Slot) (slot : Slot) (name : ChunkName) (entry : Entry) → slots ≡ slot ∷ rest → is_name name slot.name ≡ true → entry ≡ lent_entry slot.entry → ChangesEntry slots (record { name = slot.name; entry = entry } ∷ rest) name (lent_entry (entry_at slots name))
+unfolding has_name
+lent_here slots rest slot name entry is here lent =
+    let new : Slot = record { name = slot.name; entry = entry } in
+    record {
+      entries = record {
+        at =
+            entry_at-here name new rest here
+            ∙ lent
+            ∙ ap lent_entry (sym (ap (λ (s : List Slot). entry_at s name) is ∙ entry_at-here name slot rest here));
+        others = λ other differ.
+            let past : is_name other slot.name ≡ false = subst (λ (x : ChunkName). is_name other x ≡ false) (is_name-true name slot.name here) (is_name-other other name differ) in
+            entry_at-past other new rest past ∙ sym (ap (λ (s : List Slot). entry_at s other) is ∙ entry_at-past other slot rest past);
+      };
+      names = λ other. sym (ap (λ (s : List Slot). has_name s other) is);
+    }
+
+-- a chain with a node behind that gave out its file
+pub lent_behind : (slots rest new : List Slot) (slot : Slot) (name : ChunkName) → slots ≡ slot ∷ rest → is_name name slot.name ≡ false → ChangesEntry rest new name (lent_entry (entry_at rest name)) → ChangesEntry slots (slot ∷ new) name (lent_entry (entry_at slots name))
+unfolding has_name
+lent_behind slots rest new slot name is past changes = record {
+  entries = record {
+    at =
+        entry_at-past name slot new past
+        ∙ changes.entries.at
+        ∙ ap lent_entry (sym (ap (λ (s : List Slot). entry_at s name) is ∙ entry_at-past name slot rest past));
+    others = λ other differ. elim (cases_Bool (is_name other slot.name)) [
+      | inl here ↦ entry_at-here other slot new here ∙ sym (ap (λ (s : List Slot). entry_at s other) is ∙ entry_at-here other slot rest here)
+      | inr behind ↦
+          entry_at-past other slot new behind
+          ∙ changes.entries.others other differ
+          ∙ sym (ap (λ (s : List Slot). entry_at s other) is ∙ entry_at-past other slot rest behind)
+    ];
+  };
+  names = λ other. ap (λ (b : Bool). is_name other slot.name || b) (changes.names other) ∙ sym (ap (λ (s : List Slot). has_name s other) is);
+}

@@ -1,9 +1,9 @@
 -- What a port in memory knows of each name, and how that is seen as a port.
-use Rattle.std.specs.Prelude.{Bool, true, false, ◌&&◌, ◌||◌, not, List, [], ◌∷◌, Some, None, is_some, if◌then◌else◌}
+use Rattle.std.specs.Prelude.{◌≡◌, Bool, true, false, ◌&&◌, ◌||◌, not, List, [], ◌∷◌, Some, None, is_some, if◌then◌else◌}
 use Rattle.std.specs.Option.{option_map}
 use Rattle.hr_base.specs.declared.name.ChunkName.{ChunkName}
 use Rattle.hr_base.specs.NameTests.{is_name}
-use Rattle.dir_files.specs.Files.{FileState, named_file}
+use Rattle.dir_files.specs.Files.{FileState, named_file, ChangesAt}
 use Rattle.dir_files.specs.Ports.{Port, either_file}
 use Rattle.mem_folder.specs.declared.chain.Entry.{Entry}
 use Rattle.mem_folder.specs.declared.chain.Slot.{Slot}
@@ -20,11 +20,19 @@ created_entry = record { held = None; gone = None; lent = true; foreign = false;
 abbrev pub returned_entry : FileState → Entry
 returned_entry file = record { held = Some file; gone = None; lent = false; foreign = true; created = false; fixed = false }
 
--- both are known: a file that came newly is the file of the name and no removed one can come back, and what is lent at
--- one and foreign at the other is settled
+-- a handle came back, and its file was removed
+abbrev pub removed_entry : FileState → Entry
+removed_entry file = record { held = None; gone = Some file; lent = false; foreign = true; created = false; fixed = false }
+
+-- the handle of the held file was given out
+abbrev pub lent_entry : Entry → Entry
+lent_entry entry = record { held = None; gone = entry.gone; lent = true; foreign = entry.foreign; created = entry.created; fixed = entry.fixed }
+
+-- both are known: a file that came newly is the file of the name and no removed one can come back, one that was removed
+-- newly may come back and none is held, and what is lent at one and foreign at the other is settled
 abbrev pub joined : Entry → Entry → Entry
 joined newer older = record {
-  held = either_file newer.held older.held;
+  held = if is_some newer.gone then newer.held else either_file newer.held older.held;
   gone = if is_some newer.held then newer.gone else either_file newer.gone older.gone;
   lent = (newer.lent && not older.foreign) || (older.lent && not newer.foreign);
   foreign = (newer.foreign && not older.lent) || (older.foreign && not newer.lent);
@@ -53,11 +61,15 @@ unfoldable pub has_name : List Slot → ChunkName → Bool
 has_name [] name = false
 has_name (slot ∷ slots) name = is_name name slot.name || has_name slots name
 
--- with what has become known of one name
-unfoldable pub merged : List Slot → Slot → List Slot
-merged [] slot = slot ∷ []
-merged (known ∷ slots) slot =
-    if is_name known.name slot.name then record { name = known.name; entry = joined slot.entry known.entry } ∷ slots else known ∷ merged slots slot
+-- what is known of one name changes, and the names stay
+pub record ChangesEntry (old new : List Slot) (name : ChunkName) (entry : Entry) : Type 0 where
+  pub entries : ChangesAt (entry_at old) (entry_at new) name entry
+  pub names : (other : ChunkName) → has_name new other ≡ has_name old other
+
+-- something has become known of one name, and all else stays
+pub record Merges (old new : List Slot) (slot : Slot) : Type 0 where
+  pub entries : ChangesAt (entry_at old) (entry_at new) slot.name (joined slot.entry (entry_at old slot.name))
+  pub names : (other : ChunkName) → has_name new other ≡ (is_name other slot.name || has_name old other)
 
 -- after a directory sync
 unfoldable pub synced_slots : List Slot → List Slot

@@ -1,16 +1,21 @@
 //! What a port in memory knows of each name, in a chain of nodes that grows by nodes made elsewhere.
 
-ghost use Rattle.std.specs.Prelude.{◌≡◌, ◌∷◌, ◌++◌, [], None, Some, IfOk, OnOk, MatchOption, if◌then◌else◌};
+ghost use Rattle.std.specs.Prelude.{◌≡◌, ◌∷◌, ◌++◌, [], true, None, Some, IfOk, IsSome, OnOk, MatchOption, if◌then◌else◌};
+ghost use Rattle.std.specs.Ordering.{nat_cmp};
+ghost use Rattle.std.specs.Cmp.Lexicographic.{slice_cmp};
+ghost use Rattle.hr_base.specs.declared.name.ChunkName.{ChunkName};
 ghost use Rattle.dir_files.specs.Files.{FileState, new_file, named_file};
 ghost use Rattle.dir_files.specs.Ports.{IsListing, either_file};
 ghost use Rattle.mem_folder.specs.Links.{slots_of, IsTidy};
-ghost use Rattle.mem_folder.specs.Memory.{blank, created_entry, returned_entry, joined, synced_entry, entry_at, merged, synced_slots, held_names, port_of};
+ghost use Rattle.mem_folder.specs.Memory.{blank, created_entry, returned_entry, removed_entry, lent_entry, joined, synced_entry, entry_at, has_name, ChangesEntry, Merges, synced_slots, held_names, port_of};
 ghost use Rattle.hr_base.specs.NameTests.{is_name};
-ghost use Rattle.hr_base.specs.Names.{IsChunkName};
+ghost use Rattle.hr_base.specs.Names.{IsChunkName, name_text};
+ghost use Rattle.mem_folder.specs.Orders.{ComesBefore};
 
 use crate::content::Content;
 use hr_base::ChunkName;
 use std::alloc::{AllocError, Global};
+use std::cmp::Ordering;
 use std::marker::Model;
 
 /// What a port knows of one name.
@@ -37,7 +42,7 @@ pub struct Slot {
     pub entry: Entry,
 }
 
-/// The names that a port knows, each once.
+/// The names that a port knows, each once, in the order of their texts.
 #[cycle(chain)]
 #[derive(Debug, Drop)]
 pub struct Chain {
@@ -77,6 +82,15 @@ fn is_same(first: ChunkName, second: ChunkName) -> bool
     first == second
 }
 
+/// How the texts of two names compare.
+fn order_of(first: ChunkName, second: ChunkName) -> Ordering
+    requires first { IsChunkName first }
+    requires second { IsChunkName second }
+    ensures { result ≡ slice_cmp nat_cmp (name_text first) (name_text second) }
+{
+    first.cmp(&second)
+}
+
 /// The first file, or the second where there is no first.
 fn either(first: Option<Content>, second: Option<Content>) -> Option<Content>
     ensures { result ≡ either_file first second }
@@ -87,12 +101,8 @@ fn either(first: Option<Content>, second: Option<Content>) -> Option<Content>
     }
 }
 
-/// The first removed file, or the second where there is no first and no file came in its place.
-fn either_removed(
-    replaced: bool,
-    first: Option<Content>,
-    second: Option<Content>,
-) -> Option<Content>
+/// The first file, or the second where there is no first and nothing came in its place.
+fn either_unless(replaced: bool, first: Option<Content>, second: Option<Content>) -> Option<Content>
     ensures { result ≡ (if replaced then first else either_file first second) }
 {
     if replaced {
@@ -100,16 +110,6 @@ fn either_removed(
     } else {
         either(first, second)
     }
-}
-
-/// A link to the last node of a chain.
-fn last_link(slot: Slot, mut node: Box<Chain>) -> Link
-    requires { IsChunkName slot.name }
-    ensures slots { slots_of result ≡ slot ∷ [] }
-    ensures tidy { IsTidy result }
-{
-    *node = Chain::empty();
-    Link::More(slot, node)
 }
 
 impl Entry {
@@ -141,6 +141,31 @@ impl Entry {
         }
     }
 
+    /// Of a name whose handle comes back, and whose file was removed.
+    pub fn removed(content: Content) -> Entry
+        ensures { result ≡ removed_entry content }
+    {
+        Entry {
+            held: None,
+            gone: Some(content),
+            lent: false,
+            foreign: true,
+            created: false,
+            fixed: false,
+        }
+    }
+
+    /// Gives out the held file.
+    pub fn lend(&mut self) -> Content
+        requires { IsSome self.old.held }
+        ensures content { Some result ≡ self.old.held }
+        ensures lent { self.new ≡ lent_entry self.old }
+    {
+        let content = self.held.take().unwrap();
+        self.lent = true;
+        content
+    }
+
     /// Takes in what is known of the name elsewhere, or has just become known.
     pub fn join(&mut self, newer: Entry)
         ensures { self.new ≡ joined newer self.old }
@@ -153,8 +178,9 @@ impl Entry {
             created,
             fixed,
         } = newer;
-        self.gone = either_removed(held.is_some(), gone, self.gone.take());
-        self.held = either(held, self.held.take());
+        let came = held.is_some();
+        self.held = either_unless(gone.is_some(), held, self.held.take());
+        self.gone = either_unless(came, gone, self.gone.take());
         self.created = created || self.created;
         self.fixed = fixed && !self.foreign || self.fixed && !foreign;
         let here = self.lent;
@@ -217,18 +243,44 @@ impl Chain {
         }
     }
 
+    /// Puts a node in front.
+    fn begin_with(&mut self, slot: Slot, mut spare: Box<Chain>)
+        requires valid { IsChunkName slot.name }
+        requires first { (other : ChunkName) → has_name self.old other ≡ true → ComesBefore slot.name other }
+        ensures { self.new ≡ slot ∷ self.old }
+    {
+        *spare = std::mem::replace(self, Chain::empty());
+        self.link = Link::More(slot, spare);
+    }
+
     /// Takes in what is known of a name. The spare node is used where the name was not known.
     pub fn merge(&mut self, slot: Slot, spare: Box<Chain>)
         requires { IsChunkName slot.name }
-        ensures { self.new ≡ merged self.old slot }
+        ensures { Merges self.old self.new slot }
     {
         match &mut self.link {
-            Link::End => self.link = last_link(slot, spare),
-            Link::More(known, rest) => {
-                if is_same(known.name, slot.name) {
-                    known.entry.join(slot.entry);
+            Link::End => self.begin_with(slot, spare),
+            Link::More(known, rest) => match order_of(slot.name, known.name) {
+                Ordering::Less => self.begin_with(slot, spare),
+                Ordering::Equal => known.entry.join(slot.entry),
+                Ordering::Greater => rest.merge(slot, spare),
+            },
+        }
+    }
+
+    /// Gives out the held file of a name.
+    pub fn lend(&mut self, name: ChunkName) -> Content
+        requires { IsSome (entry_at self.old name).held }
+        ensures content { Some result ≡ (entry_at self.old name).held }
+        ensures lent { ChangesEntry self.old self.new name (lent_entry (entry_at self.old name)) }
+    {
+        match &mut self.link {
+            Link::End => unreachable!(),
+            Link::More(slot, rest) => {
+                if is_same(name, slot.name) {
+                    slot.entry.lend()
                 } else {
-                    rest.merge(slot, spare);
+                    rest.lend(name)
                 }
             }
         }

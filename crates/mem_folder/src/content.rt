@@ -2,6 +2,7 @@
 
 ghost use Rattle.std.specs.Prelude.{◌≡◌, OnOk, OnErr};
 ghost use Rattle.dir_files.specs.Files.{new_file, with_bytes, synced_file, named_file, IsFile};
+ghost use Rattle.mem_folder.specs.Moves.{MovesBytes};
 
 use std::alloc::{AllocError, Global};
 use std::marker::Model;
@@ -56,6 +57,18 @@ impl Content {
         ensures { result ≡ self.now.named }
     {
         self.named
+    }
+
+    /// Moves bytes, from this offset on, to the front of a buffer, and gives how many.
+    pub fn read(&self, at: u64, into: &mut [u8]) -> usize
+        ensures { MovesBytes self.now.bytes at into.old into.new result }
+    {
+        let bytes = self.bytes.as_slice();
+        let start = at.min(bytes.len() as u64) as usize;
+        let rest = &bytes[start..];
+        let count = into.len().min(rest.len());
+        into[..count].copy_from_slice(&rest[..count]);
+        count
     }
 
     /// Adds bytes at the end.

@@ -24,7 +24,22 @@ impl Named for MemFile {
 }
 
 impl MemFile {
-    ghost use Rattle.mem_folder.specs.Memory.{returned_entry};
+    ghost use Rattle.mem_folder.specs.Memory.{returned_entry, removed_entry};
+    ghost use Rattle.mem_folder.specs.Moves.{MovesBytes};
+
+    /// Of a file that lay at a port.
+    pub(crate) fn of(name: ChunkName, content: Content, node: Box<Chain>) -> MemFile
+        requires valid { IsChunkName name }
+        requires fits { content.front ≤ length content.bytes }
+        ensures name { result.name ≡ name }
+        ensures content { result.content ≡ content }
+    {
+        MemFile {
+            name,
+            content,
+            node,
+        }
+    }
 
     /// Of a file that was just created.
     pub(crate) fn new(alloc: Global, name: ChunkName) -> Result<MemFile, AllocError>
@@ -52,6 +67,13 @@ impl MemFile {
         ensures { result.now ≡ self.now.content }
     {
         &self.content
+    }
+
+    /// Moves bytes, from this offset on, to the front of a buffer, and gives how many.
+    pub(crate) fn read(&self, at: u64, into: &mut [u8]) -> usize
+        ensures { MovesBytes self.now.content.bytes at into.old into.new result }
+    {
+        self.content.read(at, into)
     }
 
     /// Adds bytes at the end.
@@ -101,6 +123,21 @@ impl MemFile {
             node,
         } = self;
         let entry = Entry::returned(content);
+        (Slot { name, entry }, node)
+    }
+
+    /// What a port keeps of the file where it is removed, and the node for that.
+    pub(crate) fn into_removed_slot(self) -> (Slot, Box<Chain>)
+        ensures name { result.0.name ≡ self.name }
+        ensures valid { IsChunkName result.0.name }
+        ensures entry { result.0.entry ≡ removed_entry self.content }
+    {
+        let MemFile {
+            name,
+            content,
+            node,
+        } = self;
+        let entry = Entry::removed(content);
         (Slot { name, entry }, node)
     }
 }

@@ -1,18 +1,19 @@
 //! A folder that lies in memory, and whose calls fail as planned.
 
-ghost use Rattle.std.specs.Prelude.{◌≡◌, ◌⊎◌, ◌≤◌, ◌+◌, ◌-◌, ◌/◌, ◌^◌, Some, None, [], true, All, length, min, take, MatchOption, IfOk, IsErrOf, OnOk, OnErr};
+ghost use Rattle.std.specs.Prelude.{◌≡◌, ◌⊎◌, ◌≤◌, ◌+◌, ◌-◌, ◌/◌, ◌^◌, Some, None, [], true, All, length, min, take, MatchOption, IfOk, IsErrOf, IsSome, OnOk, OnErr};
 ghost use Rattle.hr_base.specs.Names.{IsChunkName};
-ghost use Rattle.dir_files.specs.Files.{FileState, new_file, with_bytes, synced_file};
-ghost use Rattle.dir_files.specs.Ports.{IsEmptyPort, IsPort, CanJoin, Joins, IsListing, IsFreeName, Creates, SyncsNames, Gives};
-ghost use Rattle.dir_files.specs.Faults.{is_fault, CountsFault, StaysSound};
+ghost use Rattle.dir_files.specs.Files.{FileState, new_file, with_bytes, synced_file, IsReadAt};
+ghost use Rattle.dir_files.specs.Ports.{IsEmptyPort, IsPort, CanJoin, Joins, IsListing, IsFreeName, Takes, Creates, SyncsNames, Gives, Removes};
+ghost use Rattle.dir_files.specs.Faults.{is_fault, is_remove_fault, kept_file, CountsFault, StaysSound};
 ghost use Rattle.mem_folder.specs.Memory.{port_of};
+ghost use Rattle.mem_folder.specs.Moves.{MovesBytes};
 ghost use Rattle.mem_folder.specs.Plans.{is_sound, FollowsPlan, ForksPlan, IsPlanned, KeepsPlan};
 
 use crate::chain::{Chain, Entry, Slot};
 use crate::content::Content;
 use crate::faults::{FaultPlan, Faults};
-use dir_files::{Folder, FolderRefusal};
 use crate::file::MemFile;
+use dir_files::{Folder, FolderRefusal, RemoveRefusal};
 use hr_base::{ChunkName, Memory};
 use std::alloc::Global;
 
@@ -150,6 +151,22 @@ impl Folder for MemFolder {
         Ok(names)
     }
 
+    fn take(&mut self, name: ChunkName) -> Result<MemFile, FolderRefusal>
+        requires valid { IsChunkName name }
+        requires held { IsSome ((port_of self.old.chain).held name) }
+        ensures taken { OnOk result (Takes (port_of self.old.chain) (port_of self.new.chain) name) }
+        ensures file { IfOk result (λ file. (file.name ≡ name) × (Some file.content ≡ (port_of self.old.chain).held name)) }
+        ensures refused { OnErr result (self.new.chain ≡ self.old.chain) }
+        ensures planned { FollowsPlan self.old.faults self.new.faults (is_fault result) }
+        ensures counts { CountsFault (is_fault result) self.old.faults.count self.new.faults.count }
+        ensures stays_sound { StaysSound (is_sound self.old.faults) (is_sound self.new.faults) self.new.faults.count }
+    {
+        self.strike()?;
+        let node = Chain::spare(self.alloc)?;
+        let content = self.chain.lend(name);
+        Ok(MemFile::of(name, content, node))
+    }
+
     fn create(&mut self, name: ChunkName) -> Result<MemFile, FolderRefusal>
         requires valid { IsChunkName name }
         requires free { IsFreeName (port_of self.old.chain) name }
@@ -220,6 +237,38 @@ impl Folder for MemFolder {
             file.fix_name();
         }
         fixed
+    }
+
+    fn read(&mut self, file: &mut MemFile, at: u64, into: &mut [u8]) -> Result<usize, FolderRefusal>
+        ensures given { IfOk result (λ count. IsReadAt file.old.content.bytes at into.new count) }
+        ensures moved { IfOk result (λ count. MovesBytes file.old.content.bytes at into.old into.new count) }
+        ensures refused { OnErr result (into.new ≡ into.old) }
+        ensures bound { IfOk result (λ count. count ≤ length into.new) }
+        ensures file { file.new.content ≡ file.old.content }
+        ensures name { file.new.name ≡ file.old.name }
+        ensures same { self.new.chain ≡ self.old.chain }
+        ensures planned { FollowsPlan self.old.faults self.new.faults (is_fault result) }
+        ensures counts { CountsFault (is_fault result) self.old.faults.count self.new.faults.count }
+        ensures stays_sound { StaysSound (is_sound self.old.faults) (is_sound self.new.faults) self.new.faults.count }
+    {
+        self.strike()?;
+        Ok(file.read(at, into))
+    }
+
+    fn remove(&mut self, file: MemFile) -> Result<(), RemoveRefusal<MemFile>>
+        ensures removed { Removes (port_of self.old.chain) (port_of self.new.chain) file.name file.content }
+        ensures done { kept_file result ≡ None }
+        ensures planned { FollowsPlan self.old.faults self.new.faults (is_remove_fault result) }
+        ensures counts { CountsFault (is_remove_fault result) self.old.faults.count self.new.faults.count }
+        ensures stays_sound { StaysSound (is_sound self.old.faults) (is_sound self.new.faults) self.new.faults.count }
+    {
+        let struck = self.strike();
+        let (slot, node) = file.into_removed_slot();
+        self.chain.merge(slot, node);
+        match struck {
+            Ok(()) => Ok(()),
+            Err(_refusal) => Err(RemoveRefusal::Fault),
+        }
     }
 
     fn give(&mut self, file: MemFile)

@@ -1,4 +1,5 @@
-use Rattle.std.proofs.Common.{◌≡◌, false, List, ap, ◌∙◌}
+use Rattle.std.proofs.Common.{List, ap, sym, ◌∙◌}
+use Rattle.hr_base.specs.declared.name.ChunkName.{ChunkName}
 use Rattle.mem_folder.specs.declared.chain.Slot.{Slot}
 use Rattle.mem_folder.specs.Links.{slots_of}
 use Rattle.mem_folder.specs.Memory.{has_name, synced_slots}
@@ -11,9 +12,8 @@ invariant_of-self t c = elim c.match-self.branch [
   | in-End w ↦ rw w.self-inside-is c.self.invariant
   | in-More w ↦
       let tidy = tidy_at_more c.self.inside.link w.in-More.slot w.in-More.rest c.self.invariant w.in-More.is in
-      let absent : has_name w.sync-in-More.new.self w.in-More.slot.name ≡ false =
-      ap (λ (s : List Slot). has_name s w.in-More.slot.name) (w.sync-in-More.ensures ∙ ap synced_slots w.deref_mut.ensures.value) ∙ has_name-synced w.in-More.rest.value w.in-More.slot.name ∙ tidy.1 in
-      rw w.self-inside-is (tidy.0, absent)
+      let names = λ (other : ChunkName). ap (λ (s : List Slot). has_name s other) (w.sync-in-More.ensures ∙ ap synced_slots w.deref_mut.ensures.value) ∙ has_name-synced w.in-More.rest.value other in
+      rw w.self-inside-is (tidy.0, λ other there. tidy.1 other (sym (names other) ∙ there))
 ]
 
 pub returns : goal.returns
