@@ -1,5 +1,5 @@
 -- What the files of a folder hold.
-use Rattle.std.specs.Prelude.{◌≡◌, ◌≢◌, ℕ, ◌<◌, List, Contains, All, AllPairs, Some}
+use Rattle.std.specs.Prelude.{◌≡◌, ℕ, List, Contains, All, AllPairs, Some}
 use Rattle.hr_base.specs.declared.name.ChunkName.{ChunkName}
 use Rattle.hr_base.specs.Names.{IsChunkName, IsUpTo, class_of_kind}
 use Rattle.dir_files.specs.Images.{Image}
@@ -30,9 +30,9 @@ IsTornFile file = (records : List Record) (rest : List ℕ) → Splits (class_of
 abbrev pub IsDamagedFrom : FileBytes → ℕ → Type 0
 IsDamagedFrom file at = IsDamagedAt (class_of_kind file.name.kind) file.bytes at
 
--- the names stand in the order of their texts, each once
+-- the names stand in the order of their texts
 abbrev pub InNameOrder : List ChunkName → Type 0
-InNameOrder names = AllPairs (λ a b. IsUpTo a b × (a ≢ b)) names
+InNameOrder names = AllPairs IsUpTo names
 
 -- these are all files of the image, with all their bytes
 pub record AreFilesOf (image : Image) (files : List FileBytes) : Type 0 where

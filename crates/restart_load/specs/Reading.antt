@@ -1,5 +1,5 @@
 -- Why a chunk file in hand is not read.
-use Rattle.std.specs.Prelude.{◌≡◌, ℕ, ◌<◌, ◌≤◌, Bool, true, List, length, Some, slice_get, ⊤}
+use Rattle.std.specs.Prelude.{◌≡◌, ℕ, ◌<◌, ◌≤◌, Bool, true, Contains, List, length, map, Some, slice_get, ⊤}
 use Rattle.hr_base.specs.declared.limits.TheConstants.{MAX_FILE_LEN}
 use Rattle.hr_base.specs.declared.name.ChunkName.{ChunkName}
 use Rattle.hr_base.specs.Names.{IsChunkName}
@@ -22,18 +22,18 @@ IsReadRefusal tells taken (Partition name) = ⊥
 IsReadRefusal tells taken (Damaged name at) = ⊥
 IsReadRefusal tells taken (Clash p seq) = ⊥
 
--- at this place stands a file that is too large, of this name, and none before it is
-pub record StandsLargeAt (tells : Bool) (files : List TakenFile) (name : ChunkName) : Type 0 where
+-- at some place stands a file that is too large, of this name, and none before it is
+pub record StandsLargeAt (files : List TakenFile) (name : ChunkName) : Type 0 where
   pub place : ℕ
   pub taken : TakenFile
   pub there : slice_get files place ≡ Some taken
   pub named : taken.name ≡ name
-  pub large : tells ≡ true → IsLarge taken
-  pub before : tells ≡ true → (i : ℕ) (other : TakenFile) → i < place → slice_get files i ≡ Some other → ¬ IsLarge other
+  pub large : IsLarge taken
+  pub before : (i : ℕ) (other : TakenFile) → i < place → slice_get files i ≡ Some other → ¬ IsLarge other
 
 -- the first of the files that are too large is told, or memory or the disk failed
 abbrev pub IsFirstLarge : Bool → List TakenFile → RestartRefusal → Type 0
-IsFirstLarge tells files (TooLarge name) = StandsLargeAt tells files name
+IsFirstLarge tells files (TooLarge name) = Contains (map (λ taken. taken.name) files) name × (tells ≡ true → StandsLargeAt files name)
 IsFirstLarge tells files Memory = ⊤
 IsFirstLarge tells files DiskFault = ⊤
 IsFirstLarge tells files (Partition name) = ⊥

@@ -39,8 +39,10 @@ pub(crate) fn first_stray(names: &[ChunkName], partitions: u8) -> Option<ChunkNa
     ensures first { IfSome result (λ name. All (λ other. (partitions ≤ other.partition.0) → IsUpTo name other) names.now) }
     ensures none { IfNone result (All (λ name. name.partition.0 < partitions) names.now) }
 {
-    names
-        .iter()
-        .copied()
-        .find(|name| name.partition.0 >= partitions)
+    for name in names {
+        if name.partition.0 >= partitions {
+            return Some(*name);
+        }
+    }
+    None
 }

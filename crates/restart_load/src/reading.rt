@@ -15,57 +15,48 @@ use dir_files::{Folder, FolderRefusal};
 use hr_base::{MAX_FILE_LEN, ChunkName};
 use std::alloc::Global;
 
-/// How many bytes are asked for first.
-const LEAST_PIECE: usize = 65_536;
+/// How many bytes are asked for at once.
+const PIECE_LEN: usize = 1_048_576;
 
-/// How many bytes are asked for at most.
-const MOST_PIECE: usize = 4_194_304;
-
-/// How many bytes to ask for behind so many: as many again, within bounds, and none past the first one that is too many.
-fn piece_len(at: usize) -> usize
-    requires { at ≤ MAX_FILE_LEN }
-    ensures some { 0 < result }
-    ensures few { at + result ≤ MAX_FILE_LEN + 1 }
-{
-    let piece = at.clamp(LEAST_PIECE, MOST_PIECE);
-    piece.min(MAX_FILE_LEN as usize + 1 - at)
-}
-
-/// Reads bytes of a file, from the buffer's length on, behind those in the buffer, and answers how many.
+/// Reads bytes of a file, behind those that were read, by way of a piece of memory, and answers how many.
 fn read_piece<F: Folder>(
     folder: &mut F,
     taken: &mut Taken<F>,
-    buffer: &mut Vec<u8>,
+    bytes: &mut Vec<u8>,
+    piece: &mut [u8],
 ) -> Result<usize, FolderRefusal>
-    requires within { length buffer.old.items ≤ MAX_FILE_LEN }
-    ensures read { F.tells ≡ true → OnOk result (buffer.old.items ≡ take (length buffer.old.items) taken.old.file.bytes
-        → buffer.new.items ≡ take (length buffer.new.items) taken.old.file.bytes) }
-    ensures more { IfOk result (λ count. length buffer.new.items ≡ length buffer.old.items + count) }
-    ensures few { OnOk result (length buffer.new.items ≤ MAX_FILE_LEN + 1) }
-    ensures end { F.tells ≡ true → IfOk result (λ count. count ≡ 0 → length taken.old.file.bytes ≤ length buffer.old.items) }
-    ensures same { taken.new ≡ taken.old }
+    requires some { 0 < length piece.old }
+    ensures read { F.tells ≡ true → OnOk result (bytes.old.items ≡ take (length bytes.old.items) taken.old.file.bytes
+        → bytes.new.items ≡ take (length bytes.new.items) taken.old.file.bytes) }
+    ensures more { IfOk result (λ count. length bytes.new.items ≡ length bytes.old.items + count) }
+    ensures end { F.tells ≡ true → IfOk result (λ count. count ≡ 0 → length taken.old.file.bytes ≤ length bytes.old.items) }
+    ensures piece { length piece.new ≡ length piece.old }
+    ensures same_name { taken.new.name ≡ taken.old.name }
+    ensures same { F.tells ≡ true → taken.new ≡ taken.old }
     ensures port { F.tells ≡ true → SamePort (F.port folder.old) (F.port folder.new) }
     ensures counts { CountsFault (is_fault result) (F.count folder.old) (F.count folder.new) }
 {
-    let at = buffer.len();
-    buffer.resize(at + piece_len(at), 0)?;
-    let (_, into) = buffer.as_mut_slice().split_at_mut(at);
-    let count = folder.read(&mut taken.file, at as u64, into)?;
-    buffer.truncate(at + count);
+    let at = bytes.len();
+    let count = folder.read(&mut taken.file, at as u64, piece)?;
+    bytes.extend_from_slice(&piece[..count])?;
     Ok(count)
 }
 
-/// Reads a file whole.
+/// Reads a file whole, by way of a piece of memory.
 fn read_file<F: Folder>(
     alloc: Global,
     folder: &mut F,
     taken: &mut Taken<F>,
+    piece: &mut [u8],
 ) -> Result<Contents, RestartRefusal>
+    requires some { 0 < length piece.old }
+    ensures piece { length piece.new ≡ length piece.old }
     ensures read { F.tells ≡ true → IfOk result (λ contents. contents ≡ bytes_of taken.old) }
     ensures name { IfOk result (λ contents. contents.name ≡ taken.old.name) }
     ensures small { IfOk result (λ contents. length contents.bytes ≤ MAX_FILE_LEN) }
     ensures refused { IfErr result (IsReadRefusal F.tells taken.old) }
-    ensures same { taken.new ≡ taken.old }
+    ensures same_name { taken.new.name ≡ taken.old.name }
+    ensures same { F.tells ≡ true → taken.new ≡ taken.old }
     ensures port { F.tells ≡ true → SamePort (F.port folder.old) (F.port folder.new) }
     ensures disk { IsErrOf result RestartRefusal.DiskFault → Rose (F.count folder.old) (F.count folder.new) }
     ensures kept { F.count folder.old ≤ F.count folder.new }
@@ -75,7 +66,7 @@ fn read_file<F: Folder>(
         if bytes.len() as u64 > MAX_FILE_LEN {
             return Err(RestartRefusal::TooLarge { name: taken.name });
         }
-        let count = read_piece(folder, taken, &mut bytes)?;
+        let count = read_piece(folder, taken, &mut bytes, piece)?;
         if count == 0 {
             return Ok(Contents {
                 name: taken.name,
@@ -85,7 +76,7 @@ fn read_file<F: Folder>(
     }
 }
 
-/// Reads all files whole.
+/// Reads all files whole, each up to the first byte that is too many.
 pub(crate) fn read_files<F: Folder>(
     alloc: Global,
     folder: &mut F,
@@ -95,14 +86,17 @@ pub(crate) fn read_files<F: Folder>(
     ensures names { IfOk result (λ contents. map (λ one. one.name) contents.items ≡ map (λ taken. taken.name) files.old) }
     ensures small { IfOk result (λ contents. All (λ one. length one.bytes ≤ MAX_FILE_LEN) contents.items) }
     ensures refused { IfErr result (IsFirstLarge F.tells files.old) }
-    ensures same { files.new ≡ files.old }
+    ensures same_names { map (λ taken. taken.name) files.new ≡ map (λ taken. taken.name) files.old }
+    ensures same { F.tells ≡ true → files.new ≡ files.old }
     ensures port { F.tells ≡ true → SamePort (F.port folder.old) (F.port folder.new) }
     ensures disk { IsErrOf result RestartRefusal.DiskFault → Rose (F.count folder.old) (F.count folder.new) }
     ensures kept { F.count folder.old ≤ F.count folder.new }
 {
+    let mut piece = Vec::new(alloc);
+    piece.resize(PIECE_LEN, 0)?;
     let mut contents = Vec::with_capacity(alloc, files.len())?;
     for taken in files.iter_mut() {
-        contents.push_reserved(read_file(alloc, folder, taken)?);
+        contents.push_reserved(read_file(alloc, folder, taken, piece.as_mut_slice())?);
     }
     Ok(contents)
 }
