@@ -3,3 +3,5 @@ pub mod Entries
 pub mod Slots
 pub mod Listing
 pub mod MemPorts
+pub mod Crashes
+pub mod Lists

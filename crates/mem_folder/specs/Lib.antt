@@ -3,3 +3,7 @@ pub mod Memory
 pub mod Links
 pub mod Moves
 pub mod Orders
+pub mod Picks
+pub mod Crashes
+pub mod Lists
+pub mod Durables

@@ -1,5 +1,5 @@
 -- What a port in memory knows of each name, and how that is seen as a port.
-use Rattle.std.specs.Prelude.{◌≡◌, Bool, true, false, ◌&&◌, ◌||◌, not, List, [], ◌∷◌, Some, None, is_some, if◌then◌else◌}
+use Rattle.std.specs.Prelude.{◌≡◌, Bool, true, false, ◌&&◌, ◌||◌, not, List, [], ◌∷◌, Option, Some, None, is_some, if◌then◌else◌}
 use Rattle.std.specs.Option.{option_map}
 use Rattle.hr_base.specs.declared.name.ChunkName.{ChunkName}
 use Rattle.hr_base.specs.NameTests.{is_name}
@@ -11,6 +11,10 @@ use Rattle.mem_folder.specs.declared.chain.Slot.{Slot}
 -- nothing is known
 abbrev pub blank : Entry
 blank = record { held = None; gone = None; lent = false; foreign = false; created = false; fixed = false }
+
+-- a file is held, or none, and nothing else is known
+abbrev pub resting_entry : Option FileState → Entry
+resting_entry file = record { held = file; gone = None; lent = false; foreign = false; created = false; fixed = false }
 
 -- a handle was given out for a new file
 abbrev pub created_entry : Entry

@@ -1,19 +1,25 @@
 //! What a port in memory knows of each name, in a chain of nodes that grows by nodes made elsewhere.
 
-ghost use Rattle.std.specs.Prelude.{◌≡◌, ◌∷◌, ◌++◌, [], true, None, Some, IfOk, IsSome, OnOk, MatchOption, if◌then◌else◌};
+ghost use Rattle.std.specs.Prelude.{◌≡◌, ◌∷◌, ◌++◌, [], true, ◌||◌, All, None, Some, is_some, IfOk, IsSome, OnOk, MatchOption, if◌then◌else◌};
+ghost use Rattle.std.specs.Option.{option_map};
 ghost use Rattle.std.specs.Ordering.{nat_cmp};
 ghost use Rattle.std.specs.Cmp.Lexicographic.{slice_cmp};
 ghost use Rattle.hr_base.specs.declared.name.ChunkName.{ChunkName};
 ghost use Rattle.dir_files.specs.Files.{FileState, new_file, named_file};
 ghost use Rattle.dir_files.specs.Ports.{IsListing, either_file};
 ghost use Rattle.mem_folder.specs.Links.{slots_of, IsTidy};
-ghost use Rattle.mem_folder.specs.Memory.{blank, created_entry, returned_entry, removed_entry, lent_entry, joined, synced_entry, entry_at, has_name, ChangesEntry, Merges, synced_slots, held_names, port_of};
+ghost use Rattle.mem_folder.specs.Crashes.{LeavesSlots};
+ghost use Rattle.mem_folder.specs.Durables.{durable_file};
+ghost use Rattle.mem_folder.specs.Lists.{image_of, HoldsImage};
+ghost use Rattle.mem_folder.specs.Picks.{draw_at, next_pick, left_of};
+ghost use Rattle.mem_folder.specs.Memory.{blank, resting_entry, created_entry, returned_entry, removed_entry, lent_entry, joined, synced_entry, entry_at, has_name, ChangesEntry, Merges, synced_slots, held_names, port_of};
 ghost use Rattle.hr_base.specs.NameTests.{is_name};
 ghost use Rattle.hr_base.specs.Names.{IsChunkName, name_text};
 ghost use Rattle.mem_folder.specs.Orders.{ComesBefore};
 
 use crate::content::Content;
-use hr_base::ChunkName;
+use crate::picks;
+use hr_base::{ChunkName, Pick};
 use std::alloc::{AllocError, Global};
 use std::cmp::Ordering;
 use std::marker::Model;
@@ -112,7 +118,38 @@ fn either_unless(replaced: bool, first: Option<Content>, second: Option<Content>
     }
 }
 
+/// What a crash leaves of the files of a name.
+fn left_of(pick: Pick, held: Option<Content>, gone: Option<Content>) -> Option<Content>
+    ensures { result ≡ option_map durable_file (left_of pick (draw_at pick 0) held gone) }
+{
+    let draw = picks::first_draw(pick);
+    match held {
+        Some(content) => {
+            let named = content.is_named();
+            content.crash(pick, draw, named)
+        }
+        None => match gone {
+            Some(content) => content.crash(pick, draw, false),
+            None => None,
+        },
+    }
+}
+
 impl Entry {
+    /// Of a name of which nothing is known but its file.
+    pub fn resting(held: Option<Content>) -> Entry
+        ensures { result ≡ resting_entry held }
+    {
+        Entry {
+            held,
+            gone: None,
+            lent: false,
+            foreign: false,
+            created: false,
+            fixed: false,
+        }
+    }
+
     /// Of a name whose handle has just been given out, for a new file.
     pub fn created() -> Entry
         ensures { result ≡ created_entry }
@@ -188,6 +225,17 @@ impl Entry {
         self.foreign = foreign && !here || self.foreign && !lent;
     }
 
+    /// Makes the entry what a crash leaves of it, and gives the pick for the names behind. A name draws where a file of it
+    /// is held or gone.
+    pub fn crash(&mut self, pick: Pick) -> Pick
+        ensures left { self.new ≡ resting_entry (option_map durable_file (left_of pick (draw_at pick 0) self.old.held self.old.gone)) }
+        ensures pick { result ≡ (if is_some self.old.held || is_some self.old.gone then next_pick pick else pick) }
+    {
+        let draws = self.held.is_some() || self.gone.is_some();
+        *self = Entry::resting(left_of(pick, self.held.take(), self.gone.take()));
+        if draws { picks::next_pick(pick) } else { pick }
+    }
+
     /// Makes the name durable, and its removal too.
     pub fn sync(&mut self)
         ensures { self.new ≡ synced_entry self.old }
@@ -207,6 +255,23 @@ impl Chain {
         ensures { result ≡ [] }
     {
         Chain { link: Link::End }
+    }
+
+    /// A chain that holds these files, each of them durable. The first file of a name counts.
+    pub fn of(
+        alloc: Global,
+        mut files: Vec<(ChunkName, Vec<u8>)>,
+    ) -> Result<Chain, AllocError>
+        requires { All (λ file. IsChunkName file.0) files.items }
+        ensures { IfOk result (λ chain. HoldsImage chain (image_of files.items)) }
+    {
+        let mut chain = Chain::empty();
+        while let Some((name, bytes)) = files.pop() {
+            let node = Chain::spare(alloc)?;
+            let entry = Entry::resting(Some(Content::durable(bytes)));
+            chain.merge(Slot { name, entry }, node);
+        }
+        Ok(chain)
     }
 
     /// A node for a chain to grow by.
@@ -296,6 +361,19 @@ impl Chain {
                 let others = std::mem::replace(&mut *rest, Chain::empty());
                 self.merge(slot, rest);
                 self.absorb(others);
+            }
+        }
+    }
+
+    /// Makes of every name what a crash leaves of it.
+    pub fn crash(&mut self, pick: Pick)
+        ensures { LeavesSlots pick self.old self.new }
+    {
+        match &mut self.link {
+            Link::End => {}
+            Link::More(slot, rest) => {
+                let behind = slot.entry.crash(pick);
+                rest.crash(behind);
             }
         }
     }

@@ -1,9 +1,14 @@
 //! The content of a file that lies in memory.
 
 ghost use Rattle.std.specs.Prelude.{◌≡◌, OnOk, OnErr};
+ghost use Rattle.std.specs.Option.{option_map};
 ghost use Rattle.dir_files.specs.Files.{new_file, with_bytes, synced_file, named_file, IsFile};
+ghost use Rattle.mem_folder.specs.Durables.{durable_file};
 ghost use Rattle.mem_folder.specs.Moves.{MovesBytes};
+ghost use Rattle.mem_folder.specs.Picks.{left_of_file};
 
+use crate::picks;
+use hr_base::Pick;
 use std::alloc::{AllocError, Global};
 use std::marker::Model;
 
@@ -36,6 +41,32 @@ impl Content {
             front: 0,
             named: false,
         }
+    }
+
+    /// Of a file of which a crash keeps all.
+    pub fn durable(bytes: Vec<u8>) -> Content
+        ensures { result ≡ durable_file bytes.items }
+    {
+        let front = bytes.len();
+        Content {
+            bytes,
+            front,
+            named: true,
+        }
+    }
+
+    /// What a crash leaves of the file, where its name is lasting or not.
+    pub fn crash(self, pick: Pick, draw: u64, named: bool) -> Option<Content>
+        ensures { result ≡ option_map durable_file (left_of_file pick draw named self) }
+    {
+        let Content {
+            mut bytes, front, ..
+        } = self;
+        if !picks::stays(pick, draw, named) {
+            return None;
+        }
+        bytes.truncate(picks::left_length(pick, draw, front, bytes.len()));
+        Some(Content::durable(bytes))
     }
 
     /// All bytes of the file.

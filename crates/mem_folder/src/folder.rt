@@ -1,11 +1,15 @@
 //! A folder that lies in memory, and whose calls fail as planned.
 
-ghost use Rattle.std.specs.Prelude.{◌≡◌, ◌⊎◌, ◌≤◌, ◌+◌, ◌-◌, ◌/◌, ◌^◌, Some, None, [], true, All, length, min, take, MatchOption, IfOk, IsErrOf, IsSome, OnOk, OnErr};
+ghost use Rattle.std.specs.Prelude.{◌≡◌, ◌⊎◌, ◌≤◌, ◌+◌, ◌-◌, ◌/◌, ◌^◌, Some, None, [], true, false, All, length, min, take, MatchOption, IfOk, IsErrOf, IsSome, OnOk, OnErr};
+ghost use Rattle.hr_base.specs.declared.name.ChunkName.{ChunkName};
 ghost use Rattle.hr_base.specs.Names.{IsChunkName};
 ghost use Rattle.dir_files.specs.Files.{FileState, new_file, with_bytes, synced_file, IsReadAt};
-ghost use Rattle.dir_files.specs.Ports.{IsEmptyPort, IsPort, CanJoin, Joins, IsListing, IsFreeName, Takes, Creates, SyncsNames, Gives, Removes};
+ghost use Rattle.dir_files.specs.Images.{IsImage, read_of, port_of_image};
+ghost use Rattle.dir_files.specs.Ports.{IsEmptyPort, IsPort, SamePort, CanJoin, Joins, IsListing, IsFreeName, Takes, Creates, SyncsNames, Gives, Removes};
 ghost use Rattle.dir_files.specs.Faults.{is_fault, is_remove_fault, kept_file, CountsFault, StaysSound};
 ghost use Rattle.mem_folder.specs.Memory.{port_of};
+ghost use Rattle.mem_folder.specs.Crashes.{CrashesTo};
+ghost use Rattle.mem_folder.specs.Lists.{image_of};
 ghost use Rattle.mem_folder.specs.Moves.{MovesBytes};
 ghost use Rattle.mem_folder.specs.Plans.{is_sound, FollowsPlan, ForksPlan, IsPlanned, KeepsPlan};
 
@@ -14,7 +18,7 @@ use crate::content::Content;
 use crate::faults::{FaultPlan, Faults};
 use crate::file::MemFile;
 use dir_files::{Folder, FolderRefusal, RemoveRefusal};
-use hr_base::{ChunkName, Memory};
+use hr_base::{ChunkName, Memory, Pick};
 use std::alloc::Global;
 
 /// A port of a folder in memory. Its calls fail as its plan says, and it tells everything. A failed `create` leaves no
@@ -39,6 +43,49 @@ impl MemFolder {
         MemFolder {
             chain: Chain::empty(),
             faults: Faults::new(plans),
+            alloc,
+        }
+    }
+
+    /// The root port of a folder with these files, each of them durable. The first file of a name counts. The plans are
+    /// those of `empty`.
+    pub fn of(
+        alloc: Global,
+        files: Vec<(ChunkName, Vec<u8>)>,
+        plans: Vec<FaultPlan>,
+    ) -> Result<MemFolder, Memory>
+        requires { All (λ file. IsChunkName file.0) files.items }
+        ensures holds { IfOk result (λ folder. SamePort (port_of_image (image_of files.items)) (⟦<MemFolder as Folder>⟧.port folder)) }
+        ensures planned { IfOk result (λ folder. IsPlanned folder.faults plans.items) }
+        ensures count { IfOk result (λ folder. ⟦<MemFolder as Folder>⟧.count folder ≡ 0) }
+        ensures sound { plans.items ≡ [] → IfOk result (λ folder. ⟦<MemFolder as Folder>⟧.sound folder ≡ true) }
+    {
+        let chain = Chain::of(alloc, files)?;
+        Ok(MemFolder {
+            chain,
+            faults: Faults::new(plans),
+            alloc,
+        })
+    }
+
+    /// The folder after a crash, which has one of its outcomes, as `docs/FORMATS.md` states. No call of it fails. It takes
+    /// no memory.
+    pub fn crash(self, pick: Pick) -> MemFolder
+        requires { (name : ChunkName) → (⟦<MemFolder as Folder>⟧.port self).lent name ≡ false }
+        ensures left { CrashesTo pick (⟦<MemFolder as Folder>⟧.port self) (⟦<MemFolder as Folder>⟧.port result) }
+        ensures image { IsImage (⟦<MemFolder as Folder>⟧.port self).held (⟦<MemFolder as Folder>⟧.port self).gone (read_of (⟦<MemFolder as Folder>⟧.port result)) }
+        ensures sound { ⟦<MemFolder as Folder>⟧.sound result ≡ true }
+        ensures planned { IsPlanned result.faults [] }
+    {
+        let MemFolder {
+            mut chain,
+            faults: _,
+            alloc,
+        } = self;
+        chain.crash(pick);
+        MemFolder {
+            chain,
+            faults: Faults::new(Vec::new(alloc)),
             alloc,
         }
     }

@@ -6,6 +6,7 @@ mod content;
 mod faults;
 mod file;
 mod folder;
+mod picks;
 
 pub use faults::FaultPlan;
 pub use file::MemFile;
