@@ -1,3 +1,0 @@
-pub mod TakingLaws
-pub mod ListedLaws
-pub mod NameLaws
