@@ -258,10 +258,7 @@ impl Chain {
     }
 
     /// A chain that holds these files, each of them durable. The first file of a name counts.
-    pub fn of(
-        alloc: Global,
-        mut files: Vec<(ChunkName, Vec<u8>)>,
-    ) -> Result<Chain, AllocError>
+    pub fn of(alloc: Global, mut files: Vec<(ChunkName, Vec<u8>)>) -> Result<Chain, AllocError>
         requires { All (λ file. IsChunkName file.0) files.items }
         ensures { IfOk result (λ chain. HoldsImage chain (image_of files.items)) }
     {
