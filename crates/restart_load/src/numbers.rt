@@ -41,10 +41,7 @@ pub(crate) fn next_chunks(
     ensures each { IfOk result (λ next. length next.items ≡ partitions) }
     ensures next { IfOk result (λ next. (p n : ℕ) → slice_get next.items p ≡ Some n → IsNextAmong names.now p n) }
 {
-    let mut next = Vec::with_capacity(alloc, partitions as usize)?;
-    for _ in 0..partitions {
-        next.push_reserved(1);
-    }
+    let mut next = vec![in alloc; 1; partitions as usize]?;
     for name in names {
         let p = name.partition.0 as usize;
         next[p] = raised(next[p], *name);
