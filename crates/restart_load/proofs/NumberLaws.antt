@@ -1,9 +1,8 @@
 -- The number of a partition's next chunk, as one name more is known.
-use Rattle.std.proofs.Common.{◌≡◌, ◌≢◌, ◌⊎◌, ℕ, ◌+◌, ◌<◌, ◌≤◌, Bool, true, false, List, [], ◌∷◌, ◌++◌, Some, refl, ap, sym, ◌∙◌, subst, inl, inr, arith, zero, suc}
-use Rattle.std.specs.Prelude.{Contains, max, replicate, slice_get, slice_set, if◌then◌else◌}
+use Rattle.std.proofs.Common.{◌≡◌, ◌≢◌, ◌⊎◌, ℕ, ◌+◌, ◌≤◌, Bool, true, false, List, [], ◌∷◌, ◌++◌, Some, refl, ap, sym, ◌∙◌, subst, inl, inr, arith, zero, suc}
+use Rattle.std.specs.Prelude.{max, replicate, slice_get, slice_set, if◌then◌else◌}
 use Rattle.std.proofs.lemmas.Bool.{false≢true}
 use Rattle.std.proofs.lemmas.List.Elements.{Contains-append_left, Contains-push, Contains-push_cases}
-use Rattle.hr_base.specs.declared.limits.TheConstants.{CHUNK_NO_END}
 use Rattle.hr_base.specs.declared.name.ChunkName.{ChunkName}
 use Rattle.hr_base.specs.Names.{IsChunkName}
 use Rattle.restart_load.specs.Numbers.{IsNextAmong, IsWriterName, is_writer_kind, next_after}
@@ -68,10 +67,13 @@ module _ (names : List ChunkName) (name : ChunkName) where
       ];
       least = elim next.least [
         | inl found ↦ inl (found.0, still p found.0 found.1, found.2)
-        | inr none ↦ inr (λ other is. elim (before_or_last p other is) [
-          | inl before ↦ none.0 other before
-          | inr last ↦ never (subst (λ (x : ChunkName). IsWriterName (names ++ name ∷ []) p x) (sym last) is)
-        ], none.1)
+        | inr none ↦ inr (
+          λ other is. elim (before_or_last p other is) [
+            | inl before ↦ none.0 other before
+            | inr last ↦ never (subst (λ (x : ChunkName). IsWriterName (names ++ name ∷ []) p x) (sym last) is)
+          ],
+          none.1,
+        )
       ];
       some = next.some;
       limited = next.limited;

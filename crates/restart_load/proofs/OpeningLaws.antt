@@ -1,17 +1,22 @@
 -- How writers are opened and closed, one for each partition.
-use Rattle.std.proofs.Common.{◌≡◌, ◌≢◌, ◌⊎◌, ℕ, ◌+◌, ◌<◌, ◌≤◌, Bool, true, false, ◌&&◌, ◌||◌, not, List, [], ◌∷◌, ◌++◌, length, get_or, Option, Some, None, is_some, refl, ap, sym, ◌∙◌, subst, inl, inr, arith, zero, suc}
+use Rattle.std.proofs.Common.{◌≡◌, ◌≢◌, ◌⊎◌, ℕ, ◌<◌, Bool, true, false, ◌&&◌, ◌||◌, not, List, [], ◌∷◌, ◌++◌, length, get_or, Option, Some, None, is_some, refl, ap, sym, ◌∙◌, subst, inl, inr, arith, zero, suc}
 use Rattle.std.specs.Prelude.{slice_get, slice_set}
+use Rattle.std.proofs.lemmas.List.{length-map, map-append}
 use Rattle.std.proofs.lemmas.Option.{slice_get-get_or, slice_get_within}
 use Rattle.hr_base.specs.declared.name.ChunkName.{ChunkName}
 use Rattle.hr_base.specs.declared.limits.Limits.{Limits}
+use Rattle.hr_base.specs.declared.name.Named.{Ghosts as NamedGhosts}
+use Rattle.dir_files.specs.declared.folder.Folder.{Ghosts as FolderGhosts}
 use Rattle.dir_files.specs.Files.{FileState, Files}
 use Rattle.dir_files.specs.Ports.{CanJoin, Joins, Port, SamePort, either_file}
 use Rattle.dir_files.specs.PortStates.{IsGivenBack}
+use Rattle.partition_writer.specs.declared.writer.Writer.{Writer}
 use Rattle.partition_writer.specs.Standing.{Standing}
+use Rattle.partition_writer.specs.WriterViews.{standing}
 use Rattle.record_replay.specs.declared.play.Replayed.{Replayed}
 use Rattle.restart_load.specs.Opening.{AreOpened, HasNoFile, IsOpened}
 use Rattle.restart_load.specs.Taking.{IsKept}
-use Rattle.restart_load.specs.Writers.{EachIs}
+use Rattle.restart_load.specs.Writers.{EachIs, standings}
 
 -- ---- lists
 
@@ -62,6 +67,17 @@ module _ {A : Type 0} where
   -- the element behind the first ones
   pub get_behind : (all xs : List A) (x : A) (ys : List A) → xs ++ x ∷ ys ≡ all → slice_get all (length xs) ≡ Some x
   get_behind all xs x ys is = subst (λ (l : List A). slice_get l (length xs) ≡ Some x) is (get_at_end xs x ys)
+
+-- ---- writers
+
+module _ {F File : Type 0} {g : FolderGhosts F File} {h : NamedGhosts File} where
+  pub standings_pushed : (writers longer : List (Writer F File g h)) (writer : Writer F File g h) → longer ≡ writers ++ writer ∷ []
+      → standings longer ≡ standings writers ++ standing writer ∷ []
+  standings_pushed writers longer writer is =
+      ap (λ (all : List (Writer F File g h)). standings all) is ∙ map-append (λ (one : Writer F File g h). standing one) writers (writer ∷ [])
+
+  pub length_standings : (writers : List (Writer F File g h)) → length (standings writers) ≡ length writers
+  length_standings writers = length-map writers (λ (one : Writer F File g h). standing one)
 
 -- ---- ports
 

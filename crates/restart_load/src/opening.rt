@@ -1,12 +1,10 @@
 //! The writers of a folder that was read, one for each partition.
 
-ghost use Rattle.std.specs.Prelude.{◌≡◌, ◌≤◌, ◌<◌, [], true, length, None, Some, IfOk, OnOk, vec_capacity};
-ghost use Rattle.hr_base.specs.declared.name.ChunkName.{ChunkName};
+ghost use Rattle.std.specs.Prelude.{◌≡◌, ◌≤◌, ◌<◌, [], true, length, IfOk, OnOk, vec_capacity};
 ghost use Rattle.hr_base.specs.declared.limits.TheConstants.{MAX_PARTITIONS};
 ghost use Rattle.hr_base.specs.LimitRanges.{IsLimits};
 ghost use Rattle.dir_files.specs.Ports.{SamePort};
 ghost use Rattle.dir_files.specs.PortStates.{IsGivenBack};
-ghost use Rattle.writer_files.specs.Stocks.{files_of};
 ghost use Rattle.partition_writer.specs.WriterViews.{standing};
 ghost use Rattle.restart_load.specs.Opening.{AreOpened, CanOpen, CanOpenAll, HasNoFile, IsOpened};
 ghost use Rattle.restart_load.specs.Taking.{IsKept};

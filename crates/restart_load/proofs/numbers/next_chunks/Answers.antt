@@ -1,13 +1,19 @@
-use Rattle.std.proofs.Common.{◌≡◌, ◌<◌, ◌+◌, ◌++◌, ◌∷◌, [], ℕ, List, length, take, Some, get_or, slice_get, slice_set, slice_index_or, refl, sym, subst, ◌∙◌, rules, arith, length-set}
+use Rattle.std.proofs.Common.{◌≡◌, ◌<◌, ◌++◌, ◌∷◌, [], ℕ, List, length, take, Some, slice_get, slice_set, slice_index_or, refl, sym, subst, ◌∙◌, rules, arith, length-set}
 use Rattle.std.proofs.lemmas.List.{take_all, take_more}
-use Rattle.std.proofs.lemmas.List.Elements.{All-get_or}
 use Rattle.std.proofs.lemmas.Option.{slice_get_read}
 use Rattle.hr_base.specs.declared.name.ChunkName.{ChunkName}
 use Rattle.hr_base.specs.declared.name.Kind.TheVariants.{T}
-use Rattle.hr_base.specs.Names.{IsChunkName}
 use Rattle.restart_load.specs.Numbers.{next_after}
-use Rattle.restart_load.proofs.NumberLaws.{AreNextAmong, are_next_raised}
+use Rattle.restart_load.proofs.NumberLaws.{AreNextAmong, are_next_none, are_next_raised}
 use Rattle.restart_load.proofs.numbers.next_chunks.Goals as goal
+
+pub loop-name-init : goal.loop-name-init
+loop-name-init c =
+    let made = c.in_ok-next.ensures in
+    record {
+      each = search rules;
+      next = subst (λ (next : List ℕ). AreNextAmong [] next) (sym (made.items_if_clones_equal (λ y same. same))) (are_next_none c.args.partitions);
+    }
 
 pub loop-name-preserved : goal.loop-name-preserved
 loop-name-preserved c =

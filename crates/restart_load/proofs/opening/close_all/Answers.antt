@@ -1,10 +1,9 @@
-use Rattle.std.proofs.Common.{◌≡◌, List, [], ◌∷◌, ◌++◌, ap, subst, ◌∙◌, rules}
-use Rattle.std.proofs.lemmas.List.{map-append}
+use Rattle.std.proofs.Common.{List, subst, rules}
 use Rattle.partition_writer.specs.Standing.{Standing}
 use Rattle.partition_writer.specs.WriterViews.{standing}
 use Rattle.restart_load.specs.Opening.{HasNoFile}
 use Rattle.restart_load.specs.Writers.{EachIs, standings}
-use Rattle.restart_load.proofs.OpeningLaws.{kept_after, kept_itself, no_file_before, no_file_last}
+use Rattle.restart_load.proofs.OpeningLaws.{kept_after, kept_itself, no_file_before, no_file_last, standings_pushed}
 use Rattle.restart_load.proofs.opening.close_all.Goals as goal
 
 pub loop-writer-init : goal.loop-writer-init
@@ -16,16 +15,14 @@ loop-writer-init g c = record {
 
 pub close_one-requires-clause-none : goal.close_one-requires-clause-none
 close_one-requires-clause-none g c = λ y.
-    let split : standings c.loop-writer.writers.items ≡ standings c.pop.new.self.items ++ standing c.in-Some.writer ∷ [] =
-    ap (λ writers. standings writers) c.in-Some.ensures.items ∙ map-append (λ writer. standing writer) c.pop.new.self.items (c.in-Some.writer ∷ []) in
-    no_file_last (standings c.pop.new.self.items) (standing c.in-Some.writer) (subst (λ (writers : List Standing). EachIs HasNoFile writers) split (c.loop-writer.invariant.none y))
+    no_file_last (standings c.pop.new.self.items) (standing c.in-Some.writer)
+    (subst (λ (writers : List Standing). EachIs HasNoFile writers) (standings_pushed c.pop.new.self.items c.loop-writer.writers.items c.in-Some.writer c.in-Some.ensures.items) (c.loop-writer.invariant.none y))
 
 pub loop-writer-preserved : goal.loop-writer-preserved
 loop-writer-preserved g c = record {
   none = λ y.
-      let split : standings c.loop-writer.writers.items ≡ standings c.pop.new.self.items ++ standing c.in-Some.writer ∷ [] =
-      ap (λ writers. standings writers) c.in-Some.ensures.items ∙ map-append (λ writer. standing writer) c.pop.new.self.items (c.in-Some.writer ∷ []) in
-      no_file_before (standings c.pop.new.self.items) (standing c.in-Some.writer) (subst (λ (writers : List Standing). EachIs HasNoFile writers) split (c.loop-writer.invariant.none y));
+      no_file_before (standings c.pop.new.self.items) (standing c.in-Some.writer)
+      (subst (λ (writers : List Standing). EachIs HasNoFile writers) (standings_pushed c.pop.new.self.items c.loop-writer.writers.items c.in-Some.writer c.in-Some.ensures.items) (c.loop-writer.invariant.none y));
   same = λ y. kept_after _ _ _ (c.loop-writer.invariant.same y) (c.close_one.ensures.same y);
   kept = search rules;
 }
