@@ -60,7 +60,9 @@ impl Content {
         ensures { result ≡ option_map durable_file (left_of_file pick draw named self) }
     {
         let Content {
-            mut bytes, front, ..
+            mut bytes,
+            front,
+            ..
         } = self;
         if !picks::stays(pick, draw, named) {
             return None;
