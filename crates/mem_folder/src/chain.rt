@@ -1,6 +1,6 @@
 //! What a port in memory knows of each name, in a chain of nodes that grows by nodes made elsewhere.
 
-ghost use Rattle.std.specs.Prelude.{◌≡◌, ◌∷◌, ◌++◌, [], true, ◌||◌, All, None, Some, is_some, IfOk, IsSome, OnOk, MatchOption, if◌then◌else◌};
+ghost use Rattle.std.specs.Prelude.{◌≡◌, ◌∷◌, ◌++◌, [], true, false, ◌||◌, All, None, Some, is_some, IfOk, IsSome, OnOk, MatchOption, if◌then◌else◌};
 ghost use Rattle.std.specs.Option.{option_map};
 ghost use Rattle.std.specs.Ordering.{nat_cmp};
 ghost use Rattle.std.specs.Cmp.Lexicographic.{slice_cmp};
@@ -401,6 +401,19 @@ impl Chain {
                 }
                 rest.list(names)
             }
+        }
+    }
+}
+
+#[cfg(test)]
+impl Chain {
+    /// Whether a handle of a name is out.
+    pub fn lends(&self) -> bool
+        ensures { result ≡ false → (name : ChunkName) → (entry_at self.now name).lent ≡ false }
+    {
+        match &self.link {
+            Link::End => false,
+            Link::More(slot, rest) => { if slot.entry.lent { true } else { rest.lends() } }
         }
     }
 }

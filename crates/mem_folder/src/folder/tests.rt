@@ -1,6 +1,7 @@
 //! What the calls do, seen from outside. The helpers promise nothing, so that the proofs of the tests stay short.
 
-ghost use Rattle.std.specs.Prelude.{◌≡◌, true, IfOk};
+ghost use Rattle.std.specs.Prelude.{◌≡◌, true, false, IfOk, IsSome};
+ghost use Rattle.hr_base.specs.declared.name.ChunkName.{ChunkName};
 ghost use Rattle.hr_base.specs.Names.{IsChunkName};
 ghost use Rattle.dir_files.specs.Ports.{IsFreeName, IsEmptyPort};
 
@@ -8,8 +9,8 @@ use super::MemFolder;
 use crate::content::Content;
 use crate::faults::FaultPlan;
 use crate::file::MemFile;
-use dir_files::{Folder, FolderRefusal};
-use hr_base::{ChunkName, ChunkNo, Kind, Memory, Partition};
+use dir_files::{Folder, FolderRefusal, RemoveRefusal};
+use hr_base::{ChunkName, ChunkNo, Kind, Memory, Partition, Pick};
 use std::alloc::{AllocError, Global};
 use std::process::Abort;
 use std::test::Fail;
@@ -31,6 +32,7 @@ const OTHER: ChunkName = ChunkName {
 enum Known {
     Nothing,
     Lent,
+    LentAndCreated,
     LentAndFixed,
     Foreign,
     Created,
@@ -42,7 +44,8 @@ fn look_up(folder: &MemFolder, name: ChunkName) -> Known {
         None => Known::Nothing,
         Some(entry) => match (entry.lent, entry.foreign, entry.created, entry.fixed) {
             (false, false, false, false) => Known::Nothing,
-            (true, false, true, false) => Known::Lent,
+            (true, false, false, false) => Known::Lent,
+            (true, false, true, false) => Known::LentAndCreated,
             (true, false, false, true) => Known::LentAndFixed,
             (false, true, false, false) => Known::Foreign,
             (false, false, true, false) => Known::Created,
@@ -97,6 +100,33 @@ fn create(
     let free = is_free(folder, name);
     assert!(rt; free);
     folder.create(name)
+}
+
+fn is_held(folder: &MemFolder, name: ChunkName) -> bool
+    ensures { result ≡ true → IsSome ((⟦<MemFolder as Folder>⟧.port folder.now).held name) }
+{
+    match folder.chain.entry(name) {
+        None => false,
+        Some(entry) => entry.held.is_some(),
+    }
+}
+
+fn take(rt: &impl Abort, folder: &mut MemFolder, name: ChunkName) -> Result<MemFile, FolderRefusal>
+    requires { IsChunkName name }
+{
+    let held = is_held(folder, name);
+    assert!(rt; held);
+    folder.take(name)
+}
+
+fn remove(folder: &mut MemFolder, file: MemFile) -> Result<(), RemoveRefusal<MemFile>> {
+    folder.remove(file)
+}
+
+fn crash(rt: &impl Abort, folder: MemFolder, pick: Pick) -> MemFolder {
+    let lends = folder.chain.lends();
+    assert!(rt; !lends);
+    folder.crash(pick)
 }
 
 fn append(folder: &mut MemFolder, file: &mut MemFile, piece: &[u8]) -> Result<(), FolderRefusal> {
@@ -158,7 +188,7 @@ fn a_file_is_written_and_synced(rt: HostRuntime) -> Result<(), Fail> {
     sync_file(&mut folder, &mut file)?;
     append(&mut folder, &mut file, b"de")?;
     expect_file(&rt, &file, b"abcde", 3, false);
-    expect_port(&rt, &folder, 0, Known::Lent);
+    expect_port(&rt, &folder, 0, Known::LentAndCreated);
     Ok(())
 }
 
@@ -191,7 +221,7 @@ fn names_are_synced_where_they_lie(rt: HostRuntime) -> Result<(), Fail> {
     expect_port(&rt, &folder, 0, Known::Created);
     sync_names(&mut folder)?;
     expect_held(&rt, &folder, b"", 0, true);
-    expect_names(&rt, &mut folder, &[NAME, OTHER])
+    expect_names(&rt, &mut folder, &[OTHER, NAME])
 }
 
 #[test]
@@ -212,7 +242,7 @@ fn expect_half(rt: &impl Abort, alloc: Global, piece: &[u8], kept: &[u8]) -> Res
     let refused = append(&mut folder, &mut file, piece).err();
     assert_eq!(rt; refused, Some(FolderRefusal::Fault));
     expect_file(rt, &file, kept, 0, false);
-    expect_port(rt, &folder, 1, Known::Lent);
+    expect_port(rt, &folder, 1, Known::LentAndCreated);
     Ok(())
 }
 
@@ -231,7 +261,7 @@ fn a_failed_file_sync_syncs_nothing(rt: HostRuntime) -> Result<(), Fail> {
     let refused = sync_file(&mut folder, &mut file).err();
     assert_eq!(&rt; refused, Some(FolderRefusal::Fault));
     expect_file(&rt, &file, b"abc", 0, false);
-    expect_port(&rt, &folder, 1, Known::Lent);
+    expect_port(&rt, &folder, 1, Known::LentAndCreated);
     Ok(())
 }
 
@@ -304,5 +334,234 @@ fn a_fork_is_adopted(rt: HostRuntime) -> Result<(), Fail> {
     assert_eq!(&rt; before, Known::Foreign);
     expect_held(&rt, &root, b"a", 0, false);
     expect_port(&rt, &root, 1, Known::Created);
+    Ok(())
+}
+
+/// A folder with the file `NAME`, whose root fails one call.
+fn stocked(alloc: Global, call: u64) -> Result<MemFolder, Fail> {
+    let plan = plan_of(alloc, &[call], u64::MAX)?;
+    let bytes = Vec::from_slice(alloc, b"abcdef")?;
+    let files = vec![in alloc; (NAME, bytes)]?;
+    let folder = MemFolder::of(alloc, files, vec![in alloc; plan]?)?;
+    Ok(folder)
+}
+
+/// Reads into the front of a buffer of points, and checks what is in all of it then.
+fn expect_read(
+    rt: &impl Abort,
+    folder: &mut MemFolder,
+    file: &mut MemFile,
+    row: (&'static str, u64, usize, usize, &'static [u8]),
+) -> Result<(), Fail> {
+    let (label, at, room, count, wanted) = row;
+    let mut into = *b"....";
+    assert!(rt; room <= into.len());
+    let found = folder.read(file, at, &mut into[..room])?;
+    assert_eq!(rt; found, count, "{label}");
+    assert_eq!(rt; into.as_slice(), wanted, "{label}");
+    Ok(())
+}
+
+#[test]
+fn a_file_is_read_in_pieces(rt: HostRuntime) -> Result<(), Fail> {
+    let mut folder = stocked(rt.alloc(), 9)?;
+    expect_held(&rt, &folder, b"abcdef", 6, true);
+    let mut file = take(&rt, &mut folder, NAME)?;
+    assert_eq!(&rt; folder.bytes(NAME), None);
+    for row in [
+        ("the front", 0, 4, 4, b"abcd".as_slice()),
+        ("the end", 4, 4, 2, b"ef..".as_slice()),
+        ("a small buffer", 3, 2, 2, b"de..".as_slice()),
+        ("at the end", 6, 4, 0, b"....".as_slice()),
+        ("past the end", 9, 4, 0, b"....".as_slice()),
+        ("an empty buffer", 2, 0, 0, b"....".as_slice()),
+    ] {
+        expect_read(&rt, &mut folder, &mut file, row)?;
+    }
+    expect_port(&rt, &folder, 0, Known::Lent);
+    Ok(())
+}
+
+/// Removes the file, and checks what a crash leaves of it.
+fn expect_after_crash(
+    rt: &impl Abort,
+    alloc: Global,
+    row: (&'static str, bool, Pick, Option<&'static [u8]>),
+) -> Result<(), Fail> {
+    let (label, synced, pick, wanted) = row;
+    let mut folder = stocked(alloc, 9)?;
+    let file = take(rt, &mut folder, NAME)?;
+    let done = remove(&mut folder, file).is_ok();
+    assert!(rt; done);
+    assert_eq!(rt; folder.bytes(NAME), None, "{label}");
+    if synced {
+        sync_names(&mut folder)?;
+    }
+    let left = crash(rt, folder, pick);
+    assert_eq!(rt; left.bytes(NAME), wanted, "{label}");
+    Ok(())
+}
+
+#[test]
+fn a_removed_file_may_come_back(rt: HostRuntime) -> Result<(), Fail> {
+    for row in [
+        ("all is left", false, Pick::Most, Some(b"abcdef".as_slice())),
+        ("the least is left", false, Pick::Least, None),
+        ("the removal is durable", true, Pick::Most, None),
+    ] {
+        expect_after_crash(&rt, rt.alloc(), row)?;
+    }
+    Ok(())
+}
+
+#[test]
+fn a_failed_take_changes_nothing(rt: HostRuntime) -> Result<(), Fail> {
+    let mut folder = stocked(rt.alloc(), 1)?;
+    let refused = take(&rt, &mut folder, NAME).err();
+    assert_eq!(&rt; refused, Some(FolderRefusal::Fault));
+    expect_held(&rt, &folder, b"abcdef", 6, true);
+    expect_port(&rt, &folder, 1, Known::Nothing);
+    Ok(())
+}
+
+#[test]
+fn a_failed_read_moves_nothing(rt: HostRuntime) -> Result<(), Fail> {
+    let mut folder = stocked(rt.alloc(), 2)?;
+    let mut file = take(&rt, &mut folder, NAME)?;
+    let mut into = *b"....";
+    let refused = folder.read(&mut file, 0, &mut into).err();
+    assert_eq!(&rt; refused, Some(FolderRefusal::Fault));
+    assert_eq!(&rt; into, *b"....");
+    expect_port(&rt, &folder, 1, Known::Lent);
+    Ok(())
+}
+
+#[test]
+fn a_failed_removal_removes(rt: HostRuntime) -> Result<(), Fail> {
+    let mut folder = stocked(rt.alloc(), 2)?;
+    let file = take(&rt, &mut folder, NAME)?;
+    let failed = matches!(remove(&mut folder, file), Err(RemoveRefusal::Fault));
+    assert!(&rt; failed);
+    assert_eq!(&rt; folder.bytes(NAME), None);
+    expect_port(&rt, &folder, 1, Known::Nothing);
+    let left = crash(&rt, folder, Pick::Most);
+    assert_eq!(&rt; left.bytes(NAME), Some(b"abcdef".as_slice()));
+    Ok(())
+}
+
+fn name_of(kind: Kind) -> ChunkName
+    ensures { IsChunkName result }
+{
+    ChunkName {
+        partition: Partition(0),
+        kind,
+        number: ChunkNo(1),
+    }
+}
+
+/// A folder whose files have lasting names: `t` and `w` are held, and `u` is removed for good.
+fn lasting(rt: &impl Abort, alloc: Global) -> Result<MemFolder, Fail> {
+    let third = Vec::from_slice(alloc, b"xyz")?;
+    let first = Vec::from_slice(alloc, b"abc")?;
+    let second = Vec::from_slice(alloc, b"old")?;
+    let files = vec![in alloc;
+        (name_of(Kind::W), third),
+        (name_of(Kind::T), first),
+        (name_of(Kind::U), second),
+    ]?;
+    let mut folder = MemFolder::of(alloc, files, Vec::new(alloc))?;
+    let file = take(rt, &mut folder, name_of(Kind::U))?;
+    let done = remove(&mut folder, file).is_ok();
+    assert!(rt; done);
+    sync_names(&mut folder)?;
+    Ok(folder)
+}
+
+/// Gives back a file with more bytes, or removes it.
+fn settle(
+    folder: &mut MemFolder,
+    mut file: MemFile,
+    piece: &[u8],
+    removes: bool,
+) -> Result<(), Fail> {
+    append(folder, &mut file, piece)?;
+    if removes {
+        let _ = remove(folder, file);
+    } else {
+        give(folder, file);
+    }
+    Ok(())
+}
+
+/// A folder with all sorts of files. `t` is held, and its front is 3; `v` is held without a lasting name, and its front is
+/// 2; `w` and `x` are removed, with the fronts 3 and 0; `y` is held without a lasting name, and its front is 0.
+fn varied(rt: &impl Abort, alloc: Global) -> Result<MemFolder, Fail> {
+    let mut folder = lasting(rt, alloc)?;
+    let file = take(rt, &mut folder, name_of(Kind::T))?;
+    settle(&mut folder, file, b"defgh", false)?;
+    let mut file = create(rt, &mut folder, name_of(Kind::V))?;
+    append(&mut folder, &mut file, b"12")?;
+    sync_file(&mut folder, &mut file)?;
+    settle(&mut folder, file, b"345", false)?;
+    let file = take(rt, &mut folder, name_of(Kind::W))?;
+    settle(&mut folder, file, b"uvw", true)?;
+    let file = create(rt, &mut folder, name_of(Kind::X))?;
+    settle(&mut folder, file, b"klmnop", true)?;
+    let file = create(rt, &mut folder, name_of(Kind::Y))?;
+    settle(&mut folder, file, b"qrstu", false)?;
+    Ok(folder)
+}
+
+/// What is to lie under the names of `t`, `v`, `w`, `x` and `y`, in this order, after a crash.
+#[derive(Clone, Copy)]
+struct Left {
+    label: &'static str,
+    pick: Pick,
+    bytes: [Option<&'static [u8]>; 5],
+}
+
+fn expect_left(rt: &impl Abort, alloc: Global, row: Left) -> Result<(), Fail> {
+    let folder = varied(rt, alloc)?;
+    let left = crash(rt, folder, row.pick);
+    let kinds = [Kind::T, Kind::V, Kind::W, Kind::X, Kind::Y];
+    for (kind, wanted) in kinds.into_iter().zip(row.bytes) {
+        assert_eq!(rt; left.bytes(name_of(kind)), wanted, "{} {kind:?}", row.label);
+    }
+    assert_eq!(rt; left.bytes(name_of(Kind::U)), None, "{}", row.label);
+    Ok(())
+}
+
+#[test]
+fn a_crash_has_the_picked_outcome(rt: HostRuntime) -> Result<(), Fail> {
+    for row in [
+        Left {
+            label: "least",
+            pick: Pick::Least,
+            bytes: [Some(b"abc"), None, None, None, None],
+        },
+        Left {
+            label: "most",
+            pick: Pick::Most,
+            bytes: [
+                Some(b"abcdefgh"),
+                Some(b"12345"),
+                Some(b"xyzuvw"),
+                Some(b"klmnop"),
+                Some(b"qrstu"),
+            ],
+        },
+        Left {
+            label: "mix 1",
+            pick: Pick::Mix(1),
+            bytes: [Some(b"abcd"), Some(b"12"), None, None, None],
+        },
+        Left {
+            label: "mix 5",
+            pick: Pick::Mix(5),
+            bytes: [Some(b"abcde"), Some(b"1234"), None, Some(b""), Some(b"qrs")],
+        },
+    ] {
+        expect_left(&rt, rt.alloc(), row)?;
+    }
     Ok(())
 }
