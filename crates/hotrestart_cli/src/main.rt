@@ -14,8 +14,8 @@ mod telling;
 #[cfg(test)]
 mod tests;
 
-use mem_folder::MemFolder;
 use hr_edges::{StdSink, StdSource};
+use mem_folder::MemFolder;
 pub use outcome::Outcome;
 pub use serve::serve;
 use std::process::ExitCode;

@@ -8,9 +8,9 @@ mod runs;
 mod stops;
 
 use crate::serve::serve;
-use mem_folder::{FaultPlan, MemFolder};
 use hr_base::{ChunkName, ChunkNo, Kind, Partition};
 use hr_edges::{MemSink, MemSource};
+use mem_folder::{FaultPlan, MemFolder};
 use recording::{Call, Recording};
 use std::alloc::Global;
 use std::process::Abort;

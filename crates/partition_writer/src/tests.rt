@@ -7,11 +7,11 @@ ghost use Rattle.dir_files.specs.Ports.{IsEmptyPort};
 use super::{WriteRefusal, Writer};
 use bytes::Bytes;
 use dir_files::Folder;
-use mem_folder::{FaultPlan, MemFolder};
 use hr_base::{
     CHUNK_NO_END, ChunkName, ChunkNo, Kind, Limits, MAX_KEY_LEN, MAX_VALUE_LEN, Memory, Partition,
     SEQ_END, Seq,
 };
+use mem_folder::{FaultPlan, MemFolder};
 use ram_map::RamMap;
 use std::alloc::{AllocError, Global};
 use std::process::Abort;

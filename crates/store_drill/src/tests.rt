@@ -1,9 +1,9 @@
 //! A session over a folder in memory.
 
 use super::{Ended, play};
-use mem_folder::MemFolder;
 use hr_base::Limits;
 use hr_edges::MemSink;
+use mem_folder::MemFolder;
 use script_text::{Mode, read_script};
 use std::test::Fail;
 

@@ -9,8 +9,8 @@ ghost use Rattle.value_chunk.specs.Chunks.{IsOneRecord};
 
 use crate::{TombFilling, TombFull, TombNotSealed};
 use dir_files::{Folder, FolderRefusal};
-use mem_folder::{FaultPlan, MemFolder};
 use hr_base::{ChunkName, ChunkNo, Kind, MAX_CHUNK_LIMIT, Partition, Seq};
+use mem_folder::{FaultPlan, MemFolder};
 use record_format::{Record, encode};
 use std::alloc::{AllocError, Global};
 use std::process::Abort;

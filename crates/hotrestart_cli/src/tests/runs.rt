@@ -2,9 +2,9 @@
 
 use super::{Left, VALUES, run, words};
 use crate::serve::serve;
-use mem_folder::MemFolder;
 use hr_base::{ChunkName, ChunkNo, Kind, Partition};
 use hr_edges::{MemSink, MemSource};
+use mem_folder::MemFolder;
 use std::alloc::Global;
 use std::process::Abort;
 use std::test::Fail;
@@ -274,7 +274,11 @@ fn a_full_chunk_is_followed_by_another(rt: HostRuntime) -> Result<(), Fail> {
             Some(first),
             "{name}"
         );
-        assert_eq!(&rt; left.bytes(MORE_VALUES).map(|bytes| bytes.len()), Some(26), "{name}");
+        assert_eq!(&rt;
+            left.bytes(MORE_VALUES).map(|bytes| bytes.len()),
+            Some(26),
+            "{name}"
+        );
         assert_eq!(&rt; left.folder.kept().len(), 2, "{name}");
     }
     Ok(())

@@ -2,9 +2,9 @@
 
 use super::maps::{Account, Line, Maps, change, keys_of, lines_of, maps_left};
 use super::{Left, NEVER, plan_from, run_over};
-use mem_folder::FaultPlan;
 use hr_base::{Class, Pick, class_of};
 use hr_edges::{MemSink, MemSource};
+use mem_folder::FaultPlan;
 use std::alloc::Global;
 use std::process::Abort;
 use std::test::Fail;
