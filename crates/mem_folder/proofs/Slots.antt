@@ -197,6 +197,13 @@ pub none_has_name : (slots : List Slot) (name : ChunkName) → slots ≡ [] → 
 unfolding has_name
 none_has_name slots name is there = false≢true (sym (ap (λ (s : List Slot). has_name s name) is) ∙ there)
 
+-- a name that is lent is among the names
+pub lent_named : (slots : List Slot) (name : ChunkName) → (entry_at slots name).lent ≡ true → has_name slots name ≡ true
+lent_named slots name lent = elim (cases_Bool (has_name slots name)) [
+  | inl there ↦ there
+  | inr absent ↦ absurd (false≢true (sym (ap (λ (e : Entry). e.lent) (entry_at-absent slots name absent)) ∙ lent))
+]
+
 -- a chain whose first node gave out its file
 pub lent_here : (slots rest : List Slot) (slot : Slot) (name : ChunkName) (entry : Entry) → slots ≡ slot ∷ rest → is_name name slot.name ≡ true → entry ≡ lent_entry slot.entry → ChangesEntry slots (record { name = slot.name; entry = entry } ∷ rest) name (lent_entry (entry_at slots name))
 unfolding has_name

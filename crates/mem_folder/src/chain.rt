@@ -348,6 +348,17 @@ impl Chain {
         }
     }
 
+    /// Whether a handle of some name is out.
+    pub fn lends(&self) -> bool
+        ensures some { result ≡ true → (name : ChunkName) × ((entry_at self.now name).lent ≡ true) }
+        ensures none { result ≡ false → (name : ChunkName) → (entry_at self.now name).lent ≡ false }
+    {
+        match &self.link {
+            Link::End => false,
+            Link::More(slot, rest) => slot.entry.lent || rest.lends(),
+        }
+    }
+
     /// Takes in all that another chain knows.
     pub fn absorb(&mut self, newer: Chain)
         ensures { (name : ChunkName) → entry_at self.new name ≡ joined (entry_at newer name) (entry_at self.old name) }
@@ -401,19 +412,6 @@ impl Chain {
                 }
                 rest.list(names)
             }
-        }
-    }
-}
-
-#[cfg(test)]
-impl Chain {
-    /// Whether a handle of a name is out.
-    pub fn lends(&self) -> bool
-        ensures { result ≡ false → (name : ChunkName) → (entry_at self.now name).lent ≡ false }
-    {
-        match &self.link {
-            Link::End => false,
-            Link::More(slot, rest) => { if slot.entry.lent { true } else { rest.lends() } }
         }
     }
 }

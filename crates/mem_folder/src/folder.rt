@@ -68,6 +68,14 @@ impl MemFolder {
         })
     }
 
+    /// Whether a handle of some name is out.
+    pub fn lends(&self) -> bool
+        ensures some { result ≡ true → (name : ChunkName) × ((⟦<MemFolder as Folder>⟧.port self.now).lent name ≡ true) }
+        ensures none { result ≡ false → (name : ChunkName) → (⟦<MemFolder as Folder>⟧.port self.now).lent name ≡ false }
+    {
+        self.chain.lends()
+    }
+
     /// The folder after a crash, which has one of its outcomes, as `docs/FORMATS.md` states. No call of it fails. It takes
     /// no memory.
     pub fn crash(self, pick: Pick) -> MemFolder

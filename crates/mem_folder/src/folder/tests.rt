@@ -124,7 +124,7 @@ fn remove(folder: &mut MemFolder, file: MemFile) -> Result<(), RemoveRefusal<Mem
 }
 
 fn crash(rt: &impl Abort, folder: MemFolder, pick: Pick) -> MemFolder {
-    let lends = folder.chain.lends();
+    let lends = folder.lends();
     assert!(rt; !lends);
     folder.crash(pick)
 }
