@@ -1,5 +1,1 @@
-pub mod Entries
-pub mod Slots
-pub mod Listing
-pub mod MemPorts
 pub mod PortLaws

@@ -5,7 +5,7 @@ use Rattle.hr_base.specs.declared.name.ChunkName.{ChunkName}
 use Rattle.hr_base.specs.NameTests.{is_name}
 use Rattle.hr_base.proofs.NameTestLaws.{is_name-true, is_name-same}
 use Rattle.dir_files.specs.Files.{FileState, named_file, IsFile, ChangesAt}
-use Rattle.dir_files.specs.Ports.{Port, IsPort, IsEmptyPort, IsFreeName, is_free, Creates, SyncsNames, Gives}
+use Rattle.dir_files.specs.Ports.{Port, IsPort, IsEmptyPort, IsFreeName, is_free, Takes, Creates, SyncsNames, Gives, Removes}
 
 -- one name of a look-up that changes at one name
 at_or_else : {A : Type 0} (old new : ChunkName → A) (name : ChunkName) (value : A) → ChangesAt old new name value → (n : ChunkName) → (new n ≡ value) ⊎ (new n ≡ old n)
@@ -26,6 +26,22 @@ IsPort-empty port empty = record {
 }
 
 module _ (old new : Port) (was : IsPort old) where
+  pub IsPort-takes : (name : ChunkName) → Takes old new name → IsPort new
+  IsPort-takes name takes =
+      let stays : (n : ChunkName) (held : Option FileState) → new.held n ≡ held → is_some held ≡ true → new.held n ≡ old.held n = λ n held is some. elim (at_or_else old.held new.held name None takes.held n) [
+        | inl here ↦ absurd (false≢true (ap is_some (sym here ∙ is) ∙ some))
+        | inr same ↦ same
+      ] in
+      record {
+        held_fits = λ n file held. was.held_fits n file (sym (stays n (Some file) held refl) ∙ held);
+        gone_fits = λ n file gone. was.gone_fits n file (sym (takes.gone n) ∙ gone);
+        apart = λ n held. takes.gone n ∙ was.apart n (ap is_some (sym (stays n (new.held n) refl held)) ∙ held);
+        fixed_lent = λ n fixed. elim (at_or_else old.lent new.lent name true takes.lent n) [
+          | inl here ↦ here
+          | inr same ↦ same ∙ was.fixed_lent n (sym (takes.fixed n) ∙ fixed)
+        ];
+      }
+
   pub IsPort-creates : (name : ChunkName) → Creates old new name → IsPort new
   IsPort-creates name creates = record {
     held_fits = λ n file held. was.held_fits n file (sym (creates.held n) ∙ held);
@@ -89,6 +105,43 @@ module _ (old new : Port) (was : IsPort old) where
       gone_fits = given_gone;
       apart = given_apart;
       fixed_lent = given_fixed;
+    }
+
+  module _ (name : ChunkName) (file : FileState) (fits : IsFile file) (removes : Removes old new name file) where
+    removed_fits : (n : ChunkName) (f : FileState) → new.held n ≡ Some f → IsFile f
+    removed_fits n f held = elim (at_or_else old.held new.held name None removes.held n) [
+      | inl here ↦ absurd cc
+      | inr same ↦ was.held_fits n f (sym same ∙ held)
+    ]
+
+    removed_gone : (n : ChunkName) (f : FileState) → new.gone n ≡ Some f → IsFile f
+    removed_gone n f gone = elim (at_or_else old.gone new.gone name (Some file) removes.gone n) [
+      | inl here ↦ let e : file ≡ f = cc in subst IsFile e fits
+      | inr same ↦ was.gone_fits n f (sym same ∙ gone)
+    ]
+
+    removed_apart : (n : ChunkName) → is_some (new.held n) ≡ true → new.gone n ≡ None
+    removed_apart n held = elim (cases_Bool (is_name n name)) [
+      | inl here ↦ absurd (false≢true (ap is_some (sym (ap new.held (is_name-true n name here) ∙ removes.held.at)) ∙ held))
+      | inr past ↦
+          let differ : n ≢ name = λ same. false≢true (sym past ∙ subst (λ (x : ChunkName). is_name x name ≡ true) (sym same) (is_name-same name)) in
+          removes.gone.others n differ ∙ was.apart n (ap is_some (sym (removes.held.others n differ)) ∙ held)
+    ]
+
+    removed_fixed : (n : ChunkName) → new.fixed n ≡ true → new.lent n ≡ true
+    removed_fixed n fixed = elim (cases_Bool (is_name n name)) [
+      | inl here ↦ absurd (false≢true (sym removes.fixed.at ∙ ap new.fixed (sym (is_name-true n name here)) ∙ fixed))
+      | inr past ↦
+          let differ : n ≢ name = λ same. false≢true (sym past ∙ subst (λ (x : ChunkName). is_name x name ≡ true) (sym same) (is_name-same name)) in
+          removes.lent.others n differ ∙ was.fixed_lent n (sym (removes.fixed.others n differ) ∙ fixed)
+    ]
+
+    pub IsPort-removes : IsPort new
+    IsPort-removes = record {
+      held_fits = removed_fits;
+      gone_fits = removed_gone;
+      apart = removed_apart;
+      fixed_lent = removed_fixed;
     }
 
 -- where the test holds, the name is free

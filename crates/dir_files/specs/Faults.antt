@@ -1,8 +1,10 @@
 -- How the count of a port's faults follows the answers of its calls.
-use Rattle.std.specs.Prelude.{◌≡◌, ℕ, ◌≤◌, Bool, true, false, Result, Ok, Err}
+use Rattle.std.specs.Prelude.{◌≡◌, ℕ, ◌≤◌, Bool, true, false, Option, Some, None, Result, Ok, Err}
 use Rattle.hr_base.specs.Counts.{Rose}
 use Rattle.dir_files.specs.declared.folder.FolderRefusal.{FolderRefusal}
 use Rattle.dir_files.specs.declared.folder.FolderRefusal.TheVariants.{Memory, Fault}
+use Rattle.dir_files.specs.declared.folder.RemoveRefusal.{RemoveRefusal}
+use Rattle.dir_files.specs.declared.folder.RemoveRefusal.TheVariants as remove
 
 -- the disk failed, and memory was not what was missing
 abbrev pub is_disk : FolderRefusal → Bool
@@ -13,6 +15,18 @@ is_disk Fault = true
 abbrev pub is_fault : {T : Type 0} → Result T FolderRefusal → Bool
 is_fault (Ok value) = false
 is_fault (Err refusal) = is_disk refusal
+
+-- the handle that came back from a removal for which there was no memory
+abbrev pub kept_file : {File : Type 0} → Result (Unit {0}) (RemoveRefusal File) → Option File
+kept_file (Ok done) = None
+kept_file (Err (remove.Memory file)) = Some file
+kept_file (Err remove.Fault) = None
+
+-- the disk refused a removal
+abbrev pub is_remove_fault : {File : Type 0} → Result (Unit {0}) (RemoveRefusal File) → Bool
+is_remove_fault (Ok done) = false
+is_remove_fault (Err (remove.Memory file)) = false
+is_remove_fault (Err remove.Fault) = true
 
 -- what a call made of a count of faults: it rose where the disk refused the call, and stays otherwise
 pub record CountsFault (refused : Bool) (old new : ℕ) : Type 0 where

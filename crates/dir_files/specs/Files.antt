@@ -1,5 +1,5 @@
 -- Files as contracts see them.
-use Rattle.std.specs.Prelude.{◌≡◌, ◌≢◌, ℕ, ◌≤◌, Bool, true, false, List, [], ◌++◌, length, Option, None, Some, IsSomeAnd}
+use Rattle.std.specs.Prelude.{◌≡◌, ◌≢◌, ℕ, ◌<◌, ◌≤◌, Bool, true, false, List, [], ◌++◌, length, take, drop, Option, None, Some, IsSomeAnd}
 use Rattle.hr_base.specs.declared.name.ChunkName.{ChunkName}
 pub use Rattle.hr_base.specs.Counts.{Rose}
 
@@ -61,3 +61,10 @@ pub record ChangesAt {A : Type 0} (old new : ChunkName → A) (name : ChunkName)
 -- the look-ups answer alike
 abbrev pub SameAt : {A : Type 0} → (ChunkName → A) → (ChunkName → A) → Type 0
 SameAt old new = (name : ChunkName) → new name ≡ old name
+
+-- so many bytes, from this offset on, stand at the front of the buffer; there are none only where the file has no byte
+-- there, or the buffer is empty
+pub record IsReadAt (bytes : List ℕ) (at : ℕ) (into : List ℕ) (count : ℕ) : Type 0 where
+  pub within : count ≤ length (drop at bytes)
+  pub given : take count into ≡ take count (drop at bytes)
+  pub end : count ≡ 0 → 0 < length into → length bytes ≤ at

@@ -47,3 +47,8 @@ port_of_image image = record {
   created = λ name. false;
   fixed = λ name. false;
 }
+
+-- each file has the bytes that it had, and no image is new
+pub record KeepsImages (old new : Port) : Type 0 where
+  pub read : (name : ChunkName) → read_of new name ≡ read_of old name
+  pub images : (image : Image) → IsImage new.held new.gone image → IsImage old.held old.gone image

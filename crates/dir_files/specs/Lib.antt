@@ -3,7 +3,4 @@ pub mod Ports
 pub mod PortStates
 pub mod Images
 pub mod Faults
-pub mod Plans
-pub mod Memory
-pub mod Links
 pub mod PortCalls

@@ -90,6 +90,15 @@ pub record IsFreeName (port : Port) (name : ChunkName) : Type 0 where
 abbrev pub is_free : Port → ChunkName → Bool
 is_free port name = not (is_present port name) && (not (port.lent name) && not (port.foreign name))
 
+-- a handle of the held file is out
+pub record Takes (old new : Port) (name : ChunkName) : Type 0 where
+  pub held : ChangesAt old.held new.held name None
+  pub gone : SameAt old.gone new.gone
+  pub lent : ChangesAt old.lent new.lent name true
+  pub foreign : SameAt old.foreign new.foreign
+  pub created : SameAt old.created new.created
+  pub fixed : SameAt old.fixed new.fixed
+
 -- a handle of a file of this name, just created, is out
 pub record Creates (old new : Port) (name : ChunkName) : Type 0 where
   pub held : SameAt old.held new.held
@@ -127,6 +136,16 @@ pub record SyncsNames (old new : Port) : Type 0 where
 pub record Gives (old new : Port) (name : ChunkName) (file : FileState) : Type 0 where
   pub held : ChangesAt old.held new.held name (Some file)
   pub gone : ChangesAt old.gone new.gone name None
+  pub lent : ChangesAt old.lent new.lent name false
+  pub foreign : ChangesAt old.foreign new.foreign name (old.foreign name || not (old.lent name))
+  pub created : SameAt old.created new.created
+  pub fixed : ChangesAt old.fixed new.fixed name false
+
+-- a file was removed by its handle: it may come back until the next directory sync, no other file of its name lies here,
+-- and its name is no longer lent, or is foreign where it never was
+pub record Removes (old new : Port) (name : ChunkName) (file : FileState) : Type 0 where
+  pub held : ChangesAt old.held new.held name None
+  pub gone : ChangesAt old.gone new.gone name (Some file)
   pub lent : ChangesAt old.lent new.lent name false
   pub foreign : ChangesAt old.foreign new.foreign name (old.foreign name || not (old.lent name))
   pub created : SameAt old.created new.created

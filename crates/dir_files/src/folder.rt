@@ -18,6 +18,15 @@ pub enum FolderRefusal {
     Fault,
 }
 
+/// Why a file was not removed.
+#[derive(Debug, Drop)]
+pub enum RemoveRefusal<File> {
+    /// There was no memory. The handle comes back, and nothing changed.
+    Memory(File),
+    /// The disk failed. The file is gone all the same.
+    Fault,
+}
+
 impl From<AllocError> for FolderRefusal {
     ghost from_gives = { λ _ e. e ≡ OutOfMemory };
 
@@ -29,15 +38,16 @@ impl From<AllocError> for FolderRefusal {
 /// A port of a folder of chunk files. What each call makes of files, names and the count of faults stands in its
 /// clauses, and the words of these in `specs/`. Clauses on files hold where the folder tells its content.
 pub trait Folder: Sized {
-    ghost use Rattle.std.specs.Prelude.{◌≡◌, ◌↔◌, ◌≤◌, ◌+◌, ◌-◌, ◌^◌, ℕ, Bool, true, false, List, Option, Some, None, IsTrue, IsErrOf, IfOk, OnOk, OnErr, MatchBool, All, length, min, take};
+    ghost use Rattle.std.specs.Prelude.{◌≡◌, ◌↔◌, ◌≤◌, ◌+◌, ◌-◌, ◌^◌, ℕ, Bool, true, false, List, Option, Some, None, IsTrue, IsErrOf, IfOk, IfSome, IsSome, OnOk, OnErr, MatchBool, All, length, min, take};
     ghost use Rattle.hr_base.specs.declared.name.ChunkName.{ChunkName};
     ghost use Rattle.hr_base.specs.Names.{IsChunkName};
-    ghost use Rattle.dir_files.specs.Files.{FileState, new_file, with_bytes, synced_file, named_file};
-    ghost use Rattle.dir_files.specs.Faults.{is_fault, CountsFault, StaysSound};
-    ghost use Rattle.dir_files.specs.Ports.{Port, IsPort, SamePort, IsEmptyPort, CanJoin, Joins, IsListing, IsFreeName, Creates, MayCreate, SyncsNames, Gives};
+    ghost use Rattle.dir_files.specs.Files.{FileState, new_file, with_bytes, synced_file, named_file, IsReadAt};
+    ghost use Rattle.dir_files.specs.Faults.{is_fault, is_remove_fault, kept_file, CountsFault, StaysSound};
+    ghost use Rattle.dir_files.specs.Ports.{Port, IsPort, SamePort, IsEmptyPort, CanJoin, Joins, IsListing, IsFreeName, Takes, Creates, MayCreate, SyncsNames, Gives, Removes};
 
-    /// A handle of a file. It has the name of its file, and it moves by ownership.
-    type File: Named;
+    /// A handle of a file. It has the name of its file, and it moves by ownership. The name of a handle that is dropped
+    /// stays lent: each call that owns handles says that it gives or hands on all of them.
+    type File: Named + Drop;
 
     /// Whether the folder tells its content.
     ghost tells: { Bool };
@@ -83,6 +93,16 @@ pub trait Folder: Sized {
         ensures counts { CountsFault (is_fault result) (count self.old) (count self.new) }
         ensures stays_sound { StaysSound (sound self.old) (sound self.new) (count self.new) };
 
+    /// Gives the handle of a held file.
+    fn take(&mut self, name: ChunkName) -> Result<Self::File, FolderRefusal>
+        requires valid { IsChunkName name }
+        requires held { tells ≡ true → IsSome ((port self.old).held name) }
+        ensures taken { tells ≡ true → OnOk result (Takes (port self.old) (port self.new) name) }
+        ensures file { tells ≡ true → IfOk result (λ file. (Self.File.name file ≡ Some name) × (Some (state file) ≡ (port self.old).held name)) }
+        ensures refused { tells ≡ true → OnErr result (SamePort (port self.old) (port self.new)) }
+        ensures counts { CountsFault (is_fault result) (count self.old) (count self.new) }
+        ensures stays_sound { StaysSound (sound self.old) (sound self.new) (count self.new) };
+
     /// Makes an empty file, and gives its handle.
     fn create(&mut self, name: ChunkName) -> Result<Self::File, FolderRefusal>
         requires valid { IsChunkName name }
@@ -125,6 +145,32 @@ pub trait Folder: Sized {
         ensures fixed { tells ≡ true → (name : ChunkName) → Self.File.name file.old ≡ Some name → result ≡ (port self.now).fixed name }
         ensures marked { tells ≡ true → MatchBool result (state file.new ≡ named_file (state file.old)) (state file.new ≡ state file.old) }
         ensures name { tells ≡ true → Self.File.name file.new ≡ Self.File.name file.old };
+
+    /// Moves bytes of a file, from this offset on, to the front of a buffer, and gives how many: 0 for a buffer that is not
+    /// empty where the file has no byte there.
+    fn read(
+        &mut self,
+        file: &mut Self::File,
+        at: u64,
+        into: &mut [u8],
+    ) -> Result<usize, FolderRefusal>
+        ensures bound { IfOk result (λ count. count ≤ length into.new) }
+        ensures given { tells ≡ true → IfOk result (λ count. IsReadAt (state file.old).bytes at into.new count) }
+        ensures file { tells ≡ true → state file.new ≡ state file.old }
+        ensures name { tells ≡ true → Self.File.name file.new ≡ Self.File.name file.old }
+        ensures same { tells ≡ true → SamePort (port self.old) (port self.new) }
+        ensures counts { CountsFault (is_fault result) (count self.old) (count self.new) }
+        ensures stays_sound { StaysSound (sound self.old) (sound self.new) (count self.new) };
+
+    /// Removes a file, which may come back after a crash until the names of this port are made durable. Where the disk
+    /// fails it is gone too.
+    fn remove(&mut self, file: Self::File) -> Result<(), RemoveRefusal<Self::File>>
+        ensures removed { tells ≡ true → kept_file result ≡ None → (name : ChunkName) → Self.File.name file ≡ Some name
+            → Removes (port self.old) (port self.new) name (state file) }
+        ensures kept { tells ≡ true → IfSome (kept_file result) (λ kept. (state kept ≡ state file) × (Self.File.name kept ≡ Self.File.name file)) }
+        ensures memory { tells ≡ true → IfSome (kept_file result) (λ _. SamePort (port self.old) (port self.new)) }
+        ensures counts { CountsFault (is_remove_fault result) (count self.old) (count self.new) }
+        ensures stays_sound { StaysSound (sound self.old) (sound self.new) (count self.new) };
 
     /// Takes a handle back. Its file is held from then on, and no removed file of its name can come back.
     fn give(&mut self, file: Self::File)

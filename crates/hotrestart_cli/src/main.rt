@@ -14,7 +14,7 @@ mod telling;
 #[cfg(test)]
 mod tests;
 
-use dir_files::MemFolder;
+use mem_folder::MemFolder;
 use hr_edges::{StdSink, StdSource};
 pub use outcome::Outcome;
 pub use serve::serve;

@@ -8,7 +8,7 @@ mod runs;
 mod stops;
 
 use crate::serve::serve;
-use dir_files::{FaultPlan, MemFolder};
+use mem_folder::{FaultPlan, MemFolder};
 use hr_base::{ChunkName, ChunkNo, Kind, Partition};
 use hr_edges::{MemSink, MemSource};
 use recording::{Call, Recording};
@@ -17,7 +17,7 @@ use std::process::Abort;
 use std::test::Fail;
 
 /// The first chunk of values.
-const V1: ChunkName = ChunkName {
+const VALUES: ChunkName = ChunkName {
     partition: Partition(0),
     kind: Kind::V,
     number: ChunkNo(1),

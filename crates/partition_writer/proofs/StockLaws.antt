@@ -1,5 +1,5 @@
 -- What the chunks that take records are after a chunk was begun, and after a record was appended.
-use Rattle.std.proofs.Common.{◌≡◌, ◌≢◌, ◌⊎◌, ℕ, ◌+◌, ◌<◌, ◌≤◌, Bool, true, false, List, length, take, Option, Some, None, IfSome, IsSomeAnd, OnOk, Result, Ok, Err, option_map, refl, ap, sym, ◌∙◌, subst, inl, inr, arith, option_to_list, if◌then◌else◌}
+use Rattle.std.proofs.Common.{◌≡◌, ◌≢◌, ◌⊎◌, ℕ, ◌+◌, ◌<◌, ◌≤◌, Bool, true, false, All, List, length, take, Option, Some, None, IfSome, IsSomeAnd, OnOk, Result, Ok, Err, option_map, refl, ap, sym, ◌∙◌, subst, inl, inr, arith, option_to_list, if◌then◌else◌}
 use Rattle.std.specs.List.{AllZip}
 use Rattle.std.proofs.lemmas.Bool.{cases_Bool}
 use Rattle.hr_base.specs.declared.name.Class.{Class}
@@ -13,9 +13,9 @@ use Rattle.dir_files.specs.declared.folder.FolderRefusal.TheVariants.{Memory, Fa
 use Rattle.dir_files.specs.Files.{FileState, Files, ChangesAt, SameAt, Rises}
 use Rattle.value_chunk.specs.Chunks.{Chunk}
 use Rattle.value_chunk.specs.Calls.{Appends, IsTold, begun}
-use Rattle.writer_chunks.specs.Lanes.{LaneState, chunks, takes, taking_fits}
+use Rattle.writer_chunks.specs.Lanes.{LaneState, chunks, empty_lane, takes, taking_fits}
 use Rattle.writer_chunks.specs.LaneCalls.{AppendsIn, Begins, BeginsChunk, BeginsFile, EachRises}
-use Rattle.writer_files.specs.Stocks.{Stock, lane_of, files_of, taking_of, is_chunk_of}
+use Rattle.writer_files.specs.Stocks.{IsSettled, Stock, lane_of, files_of, taking_of, is_chunk_of}
 use Rattle.writer_files.specs.StockCalls.{AppendsAny, BeginsAny, Extends, ExtendsFile, KeepsChunk, KeepsOthers, KeepsTaking}
 use Rattle.writer_files.proofs.ClassLaws.{same_class_or_not}
 use Rattle.partition_writer.specs.Standing.{chosen, name_or, writer_kind}
@@ -233,6 +233,14 @@ none_own p stock none class chunk is = absurd (none class chunk is)
 
 pub none_ready : (stock : Stock) → ((class : Class) (chunk : Chunk) → (lane_of stock class).taking ≡ Some chunk → ⊥) → IsReady stock
 none_ready stock none class chunk is = absurd (none class chunk is)
+
+-- and nothing is to be synced
+pub none_settled : (stock : Stock) → stock.fresh ≡ false → ((class : Class) → lane_of stock class ≡ empty_lane class) → IsSettled stock
+none_settled stock fresh empty = record {
+  fresh = fresh;
+  full = λ class. ap (λ (lane : LaneState). lane.full) (empty class);
+  synced = λ class. subst (λ (lane : LaneState). All (λ chunk. chunk.unsynced ≡ false) (chunks lane)) (sym (empty class)) (λ k chunk below. let never : ⊥ = omega (arith, below) in absurd never);
+}
 
 -- the disk refused neither
 pub no_fault_before : (answer : Result ℕ FolderRefusal) → without_offset answer ≢ Err Fault → answer ≢ Err Fault

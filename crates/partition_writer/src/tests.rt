@@ -6,7 +6,8 @@ ghost use Rattle.dir_files.specs.Ports.{IsEmptyPort};
 
 use super::{WriteRefusal, Writer};
 use bytes::Bytes;
-use dir_files::{FaultPlan, Folder, MemFolder};
+use dir_files::Folder;
+use mem_folder::{FaultPlan, MemFolder};
 use hr_base::{
     CHUNK_NO_END, ChunkName, ChunkNo, Kind, Limits, MAX_KEY_LEN, MAX_VALUE_LEN, Memory, Partition,
     SEQ_END, Seq,

@@ -132,6 +132,7 @@ impl<F: Folder> Writer<F> {
     ghost use Rattle.dir_files.specs.PortStates.{IsGivenBack};
     ghost use Rattle.record_format.specs.Spelling.{seq_of, spelling};
     ghost use Rattle.record_format.specs.Splits.{IsOfClass};
+    ghost use Rattle.writer_chunks.specs.LaneCalls.{EachRises};
     ghost use Rattle.writer_chunks.specs.Lanes.{empty_lane};
     ghost use Rattle.writer_files.specs.Stocks.{lane_of, AllDurable, IsSettled};
     ghost use Rattle.crash_law.specs.Accounts.{Account, fresh_account};
@@ -172,6 +173,9 @@ impl<F: Folder> Writer<F> {
         ensures lost { (standing result).lost ≡ false }
         ensures lanes { (class : Class) → lane_of (standing result).stock class ≡ empty_lane class }
         ensures port { port_of result ≡ port }
+        // It has no file, and nothing is to be synced.
+        ensures settled { IsSettled (standing result).stock }
+        ensures files { F.tells ≡ true → (name : ChunkName) → files_of (standing result).stock name ≡ None }
         // It stands for the maps that it goes on from, where they are those of the files found.
         ensures account { F.tells ≡ true → (b : Beginning) → IsBeginning p.0 b → b.maps ≡ map.entries
             → b.first ≡ next → b.first_chunk ≡ chunk → Stands (standing result) b (fresh_account b.maps) }
@@ -446,6 +450,8 @@ impl<F: Folder> Writer<F> {
         ensures idle { (standing self.old).halted ≡ None → IsSettled (standing self.old).stock
             → IsOk result × (port_of self.new ≡ port_of self.old) }
         ensures settled { OnOk result (IsSettled (standing self.new).stock) }
+        // It creates and removes no file, and a crash keeps of each what it kept before, or more.
+        ensures files { F.tells ≡ true → EachRises (files_of (standing self.old).stock) (files_of (standing self.new).stock) }
         ensures durable { F.tells ≡ true → OnOk result (AllDurable (files_of (standing self.new).stock)) }
 
         // When each refusal comes.

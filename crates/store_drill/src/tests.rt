@@ -1,7 +1,7 @@
 //! A session over a folder in memory.
 
 use super::{Ended, play};
-use dir_files::MemFolder;
+use mem_folder::MemFolder;
 use hr_base::Limits;
 use hr_edges::MemSink;
 use script_text::{Mode, read_script};

@@ -8,7 +8,8 @@ ghost use Rattle.dir_files.specs.Ports.{can_be_fixed, IsEmptyPort};
 ghost use Rattle.value_chunk.specs.Chunks.{IsOneRecord};
 
 use crate::{TombFilling, TombFull, TombNotSealed};
-use dir_files::{FaultPlan, Folder, FolderRefusal, MemFolder};
+use dir_files::{Folder, FolderRefusal};
+use mem_folder::{FaultPlan, MemFolder};
 use hr_base::{ChunkName, ChunkNo, Kind, MAX_CHUNK_LIMIT, Partition, Seq};
 use record_format::{Record, encode};
 use std::alloc::{AllocError, Global};

@@ -12,7 +12,8 @@ ghost use Rattle.writer_files.specs.StockViews.{stock};
 
 use crate::WriterFiles;
 use bytes::Bytes;
-use dir_files::{FaultPlan, Folder, FolderRefusal, MemFolder};
+use dir_files::{Folder, FolderRefusal};
+use mem_folder::{FaultPlan, MemFolder};
 use hr_base::{ChunkName, ChunkNo, Class, Kind, MAX_CHUNK_LIMIT, Partition, Seq, class_of};
 use record_format::{Record, encode};
 use std::alloc::{AllocError, Global};

@@ -1,7 +1,7 @@
 //! One short script with a fault of the folder, the source or the sink.
 
 use super::recording::Call;
-use super::{FORKED, NEVER, ROOT, V1, plan_from, run_over};
+use super::{FORKED, NEVER, ROOT, VALUES, plan_from, run_over};
 use hr_edges::{MemSink, MemSource};
 use std::alloc::Global;
 use std::process::Abort;
@@ -130,7 +130,7 @@ fn check_faulty(rt: &impl Abort, alloc: Global, run: &Faulty) -> Result<(), Fail
     let out = MemSink::in_steps(alloc, run.room, [run.sink].to_vec(alloc)?, run.most)?;
     let left = run_over(rt, alloc, "DIR play", plans, input, out)?;
     left.expect(rt, run.name, run.status, run.printed);
-    let stored = left.bytes(V1);
+    let stored = left.bytes(VALUES);
     let name = run.name;
     assert_eq!(rt; stored.map(|bytes| bytes.len()), run.stored, "{name}");
     assert!(rt; RECORD.starts_with(stored.unwrap_or(b"")), "{name}");
@@ -156,7 +156,7 @@ fn a_failed_directory_sync_is_no_sync(rt: HostRuntime) -> Result<(), Fail> {
     let left = run_over(&rt, alloc, "DIR play", plans, input, out)?;
     let name = "a failed directory sync";
     left.expect(&rt, name, 5, b"0 none\nrefused disk\n");
-    assert_eq!(&rt; left.bytes(V1), Some(RECORD));
+    assert_eq!(&rt; left.bytes(VALUES), Some(RECORD));
     left.expect_calls(
         &rt,
         name,

@@ -1,7 +1,7 @@
 //! Scripts at the limits of a value and of a script, and past them.
 
 use super::recording::Call;
-use super::{V1, plan_from, run_over};
+use super::{VALUES, plan_from, run_over};
 use hr_edges::{MemSink, MemSource};
 use std::alloc::Global;
 use std::process::Abort;
@@ -73,7 +73,7 @@ fn check_long(rt: &impl Abort, alloc: Global, run: &Long) -> Result<(), Fail> {
     let left = run_over(rt, alloc, "DIR play", plans, input, out)?;
     left.expect(rt, run.name, run.status, run.printed);
     let name = run.name;
-    assert!(rt; left.bytes(V1).is_none(), "{name}");
+    assert!(rt; left.bytes(VALUES).is_none(), "{name}");
     left.expect_calls(rt, run.name, run.calls, &[]);
     Ok(())
 }

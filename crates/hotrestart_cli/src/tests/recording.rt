@@ -2,18 +2,21 @@
 
 ghost use Rattle.std.specs.Prelude.{◌≡◌};
 
-use dir_files::{Folder, FolderRefusal};
+use dir_files::{Folder, FolderRefusal, RemoveRefusal};
 use hr_base::{ChunkName, Memory, Named};
 use std::alloc::Global;
 
 /// A call that reaches the disk.
 #[derive(Clone, Copy, Debug, PartialEq, Eq)]
 pub enum Call {
+    Take,
     Create,
     Append,
     SyncFile,
     SyncNames,
     Names,
+    Read,
+    Remove,
 }
 
 /// A file that was given back: so many of its first bytes were synced, and so was its name, or not.
@@ -123,6 +126,7 @@ impl Logs {
 }
 
 /// A handle of a file, with what its port was told of it.
+#[derive(Drop)]
 pub struct Handle<H: Named> {
     inner: H,
     name: ChunkName,
@@ -244,6 +248,20 @@ impl<F: Folder> Folder for Recording<F> {
         self.inner.names()
     }
 
+    fn take(&mut self, name: ChunkName) -> Result<Handle<F::File>, FolderRefusal> {
+        self.logs.note(Call::Take);
+        match self.inner.take(name) {
+            Ok(inner) => Ok(Handle {
+                inner,
+                name,
+                born: 0,
+                length: 0,
+                front: 0,
+            }),
+            Err(refusal) => Err(refusal),
+        }
+    }
+
     fn create(&mut self, name: ChunkName) -> Result<Handle<F::File>, FolderRefusal> {
         self.logs.note(Call::Create);
         match self.inner.create(name) {
@@ -291,6 +309,38 @@ impl<F: Folder> Folder for Recording<F> {
 
     fn mark(&self, file: &mut Handle<F::File>) -> bool {
         self.inner.mark(&mut file.inner)
+    }
+
+    fn read(
+        &mut self,
+        file: &mut Handle<F::File>,
+        at: u64,
+        into: &mut [u8],
+    ) -> Result<usize, FolderRefusal> {
+        self.logs.note(Call::Read);
+        self.inner.read(&mut file.inner, at, into)
+    }
+
+    fn remove(&mut self, file: Handle<F::File>) -> Result<(), RemoveRefusal<Handle<F::File>>> {
+        self.logs.note(Call::Remove);
+        let Handle {
+            inner,
+            name,
+            born,
+            length,
+            front,
+        } = file;
+        match self.inner.remove(inner) {
+            Ok(()) => Ok(()),
+            Err(RemoveRefusal::Memory(inner)) => Err(RemoveRefusal::Memory(Handle {
+                inner,
+                name,
+                born,
+                length,
+                front,
+            })),
+            Err(RemoveRefusal::Fault) => Err(RemoveRefusal::Fault),
+        }
     }
 
     fn give(&mut self, file: Handle<F::File>) {

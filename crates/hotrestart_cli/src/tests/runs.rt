@@ -1,33 +1,33 @@
 //! Runs without faults: what is printed, and what each file holds then, byte by byte.
 
-use super::{Left, V1, run, words};
+use super::{Left, VALUES, run, words};
 use crate::serve::serve;
-use dir_files::MemFolder;
+use mem_folder::MemFolder;
 use hr_base::{ChunkName, ChunkNo, Kind, Partition};
 use hr_edges::{MemSink, MemSource};
 use std::alloc::Global;
 use std::process::Abort;
 use std::test::Fail;
 
-const T2: ChunkName = ChunkName {
+const TOMBS: ChunkName = ChunkName {
     partition: Partition(0),
     kind: Kind::T,
     number: ChunkNo(2),
 };
 
-const X3: ChunkName = ChunkName {
+const CLEARS: ChunkName = ChunkName {
     partition: Partition(0),
     kind: Kind::X,
     number: ChunkNo(3),
 };
 
-const V2: ChunkName = ChunkName {
+const MORE_VALUES: ChunkName = ChunkName {
     partition: Partition(0),
     kind: Kind::V,
     number: ChunkNo(2),
 };
 
-const OTHER_V1: ChunkName = ChunkName {
+const OTHER_VALUES: ChunkName = ChunkName {
     partition: Partition(1),
     kind: Kind::V,
     number: ChunkNo(1),
@@ -79,7 +79,7 @@ const RUNS: [Run; 18] = [
         status: 0,
         printed: b"0 none\n0 synced\n0 is v1\n",
         stored: &[Stored {
-            name: V1,
+            name: VALUES,
             records: &[b"\0\0\0\0\0\0\0\x01\0\0\0\0\0\0\0\x05\0\0\0\x02\0\0\0\x02k1v1"],
         }],
     },
@@ -106,7 +106,7 @@ const RUNS: [Run; 18] = [
         status: 0,
         printed: b"0 none\n0 is %\n0 none\n0 is a\n",
         stored: &[Stored {
-            name: V1,
+            name: VALUES,
             records: &[
                 b"\0\0\0\0\0\0\0\x01\0\0\0\0\0\0\0\x01\0\0\0\0\0\0\0\0",
                 b"\0\0\0\0\0\0\0\x02\0\0\0\0\0\0\0\x01\0\0\0\x01\0\0\0\x01\0a",
@@ -130,7 +130,7 @@ const RUNS: [Run; 18] = [
         printed: b"0 none\n0 was x\n0 none\n0 was z\n0 none\n0 cleared 1\n0 none\n0 synced\n",
         stored: &[
             Stored {
-                name: V1,
+                name: VALUES,
                 records: &[
                     b"\0\0\0\0\0\0\0\x01\0\0\0\0\0\0\0\x01\0\0\0\x01\0\0\0\x01ax",
                     b"\0\0\0\0\0\0\0\x02\0\0\0\0\0\0\0\x01\0\0\0\x01\0\0\0\x02ayy",
@@ -140,11 +140,11 @@ const RUNS: [Run; 18] = [
                 ],
             },
             Stored {
-                name: T2,
+                name: TOMBS,
                 records: &[b"\0\0\0\0\0\0\0\x04\0\0\0\0\0\0\0\x01\0\0\0\x01b"],
             },
             Stored {
-                name: X3,
+                name: CLEARS,
                 records: &[b"\0\0\0\0\0\0\0\x02\0\0\0\0\0\0\0\x06"],
             },
         ],
@@ -158,11 +158,11 @@ const RUNS: [Run; 18] = [
         printed: b"1 none\n0 none\n1 is v\n1 synced\n",
         stored: &[
             Stored {
-                name: V1,
+                name: VALUES,
                 records: &[b"\0\0\0\0\0\0\0\x01\0\0\0\0\0\0\0\x05\0\0\0\x01\0\0\0\x01kw"],
             },
             Stored {
-                name: OTHER_V1,
+                name: OTHER_VALUES,
                 records: &[b"\0\0\0\0\0\0\0\x01\0\0\0\0\0\0\0\x05\0\0\0\x01\0\0\0\x01kv"],
             },
         ],
@@ -270,11 +270,11 @@ fn a_full_chunk_is_followed_by_another(rt: HostRuntime) -> Result<(), Fail> {
         let left = run(&rt, alloc, words, script.as_slice())?;
         left.expect(&rt, name, 0, b"0 none\n0 none\n0 synced\n");
         assert_eq!(&rt;
-            left.bytes(V1).map(|bytes| bytes.len()),
+            left.bytes(VALUES).map(|bytes| bytes.len()),
             Some(first),
             "{name}"
         );
-        assert_eq!(&rt; left.bytes(V2).map(|bytes| bytes.len()), Some(26), "{name}");
+        assert_eq!(&rt; left.bytes(MORE_VALUES).map(|bytes| bytes.len()), Some(26), "{name}");
         assert_eq!(&rt; left.folder.kept().len(), 2, "{name}");
     }
     Ok(())
@@ -302,7 +302,7 @@ fn sixty_four_partitions(rt: HostRuntime) -> Result<(), Fail> {
     for p in 0..64 {
         let name = ChunkName {
             partition: Partition(p),
-            ..V1
+            ..VALUES
         };
         let record = b"\0\0\0\0\0\0\0\x01\0\0\0\0\0\0\0\x01\0\0\0\x01\0\0\0\x01kv".as_slice();
         assert_eq!(&rt; left.bytes(name), Some(record), "partition {p}");
@@ -327,6 +327,6 @@ fn a_chunk_file_is_refused(rt: HostRuntime) -> Result<(), Fail> {
         told.taken(),
         b"refused not-built p00-v-0000000000000001.chunk\n".as_slice()
     );
-    assert_eq!(&rt; folder.bytes(V1).map(|bytes| bytes.len()), Some(28));
+    assert_eq!(&rt; folder.bytes(VALUES).map(|bytes| bytes.len()), Some(28));
     Ok(())
 }

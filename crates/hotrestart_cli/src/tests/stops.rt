@@ -2,7 +2,7 @@
 
 use super::maps::{Account, Line, Maps, change, keys_of, lines_of, maps_left};
 use super::{Left, NEVER, plan_from, run_over};
-use dir_files::FaultPlan;
+use mem_folder::FaultPlan;
 use hr_base::{Class, Pick, class_of};
 use hr_edges::{MemSink, MemSource};
 use std::alloc::Global;

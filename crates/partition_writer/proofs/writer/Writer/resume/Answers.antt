@@ -6,7 +6,7 @@ use Rattle.writer_files.specs.Stocks.{lane_of}
 use Rattle.writer_files.specs.StockViews.{stock}
 use Rattle.partition_writer.proofs.StandLaws.{stand_resumed}
 use Rattle.partition_writer.proofs.FileLaws.{none_taken, some_not_none}
-use Rattle.partition_writer.proofs.StockLaws.{none_own, none_ready}
+use Rattle.partition_writer.proofs.StockLaws.{none_own, none_ready, none_settled}
 use Rattle.partition_writer.proofs.writer.Writer.resume.Goals as goal
 
 pub invariant_of-result : goal.invariant_of-result
@@ -31,3 +31,6 @@ invariant_of-result g c =
 pub returns-clause-account : goal.returns-clause-account
 returns-clause-account g c = λ tells b is maps first chunk.
     stand_resumed _ b is (c.new.ensures.files tells) (none_taken (stock c.new.result) c.new.ensures.lanes) (sym maps) (search rules) (sym first) (sym chunk) (search rules)
+
+pub returns-clause-settled : goal.returns-clause-settled
+returns-clause-settled g c = none_settled (stock c.new.result) c.new.ensures.fresh c.new.ensures.lanes

@@ -1,4 +1,5 @@
 use Rattle.std.proofs.Common.{rules, refl, ap}
+use Rattle.writer_chunks.proofs.FileLaws.{rises_same}
 use Rattle.writer_files.specs.StockViews.{stock}
 use Rattle.partition_writer.specs.WriterViews.{standing}
 use Rattle.partition_writer.proofs.LimitLaws.{some_halted}
@@ -67,3 +68,6 @@ pub returns-in-Err-Fault-clause-account : goal.returns-in-Err-Fault-clause-accou
 returns-in-Err-Fault-clause-account g c = λ tells b a h.
     stand_unsynced (standing c.args.self.now) _ b a h refl refl (c.sync.ensures.files tells) (c.sync.ensures.fits tells) c.sync.ensures.taking
     (record { partition = refl; limits = refl; maps = refl; records = refl; next = refl; lost = refl })
+
+pub returns-in-Some-clause-files : goal.returns-in-Some-clause-files
+returns-in-Some-clause-files g c = λ tells name. rises_same _

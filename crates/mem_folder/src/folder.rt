@@ -1,0 +1,284 @@
+//! A folder that lies in memory, and whose calls fail as planned.
+
+ghost use Rattle.std.specs.Prelude.{◌≡◌, ◌⊎◌, ◌≤◌, ◌+◌, ◌-◌, ◌/◌, ◌^◌, Some, None, [], true, All, length, min, take, MatchOption, IfOk, IsErrOf, IsSome, OnOk, OnErr};
+ghost use Rattle.hr_base.specs.Names.{IsChunkName};
+ghost use Rattle.dir_files.specs.Files.{FileState, new_file, with_bytes, synced_file, IsReadAt};
+ghost use Rattle.dir_files.specs.Ports.{IsEmptyPort, IsPort, CanJoin, Joins, IsListing, IsFreeName, Takes, Creates, SyncsNames, Gives, Removes};
+ghost use Rattle.dir_files.specs.Faults.{is_fault, is_remove_fault, kept_file, CountsFault, StaysSound};
+ghost use Rattle.mem_folder.specs.Memory.{port_of};
+ghost use Rattle.mem_folder.specs.Moves.{MovesBytes};
+ghost use Rattle.mem_folder.specs.Plans.{is_sound, FollowsPlan, ForksPlan, IsPlanned, KeepsPlan};
+
+use crate::chain::{Chain, Entry, Slot};
+use crate::content::Content;
+use crate::faults::{FaultPlan, Faults};
+use crate::file::MemFile;
+use dir_files::{Folder, FolderRefusal, RemoveRefusal};
+use hr_base::{ChunkName, Memory};
+use std::alloc::Global;
+
+/// A port of a folder in memory. Its calls fail as its plan says, and it tells everything. A failed `create` leaves no
+/// file, and a failed `append` the first half of its piece, or nothing of it where there is no memory for that.
+#[derive(Debug, Drop)]
+pub struct MemFolder {
+    chain: Chain,
+    faults: Faults,
+    alloc: Global,
+    ghost lawful: { IsPort (port_of chain) },
+}
+
+impl MemFolder {
+    /// The root port of an empty folder, which follows plan 0. Its k-th fork follows plan k. A missing plan never
+    /// fails, and neither does a fork of a fork. It takes no memory.
+    pub fn empty(alloc: Global, plans: Vec<FaultPlan>) -> MemFolder
+        ensures empty { IsEmptyPort (⟦<MemFolder as Folder>⟧.port result) }
+        ensures planned { IsPlanned result.faults plans.items }
+        ensures count { ⟦<MemFolder as Folder>⟧.count result ≡ 0 }
+        ensures sound { plans.items ≡ [] → ⟦<MemFolder as Folder>⟧.sound result ≡ true }
+    {
+        MemFolder {
+            chain: Chain::empty(),
+            faults: Faults::new(plans),
+            alloc,
+        }
+    }
+
+    /// Counts a call, which the disk refuses where that is planned.
+    fn strike(&mut self) -> Result<(), FolderRefusal>
+        ensures cause { OnErr result (IsErrOf result FolderRefusal.Fault) }
+        ensures same { self.new.chain ≡ self.old.chain }
+        ensures planned { FollowsPlan self.old.faults self.new.faults (is_fault result) }
+        ensures counts { CountsFault (is_fault result) self.old.faults.count self.new.faults.count }
+        ensures stays_sound { StaysSound (is_sound self.old.faults) (is_sound self.new.faults) self.new.faults.count }
+    {
+        if self.faults.strikes() {
+            Err(FolderRefusal::Fault)
+        } else {
+            Ok(())
+        }
+    }
+
+    /// The bytes of a held file. It takes no memory.
+    pub fn bytes(&self, name: ChunkName) -> Option<&[u8]>
+        ensures { MatchOption result ((⟦<MemFolder as Folder>⟧.port self.now).held name ≡ None) (λ b. (file : FileState) × ((⟦<MemFolder as Folder>⟧.port self.now).held name ≡ Some file) × (b.now ≡ file.bytes)) }
+    {
+        match self.chain.entry(name) {
+            None => None,
+            Some(entry) => match &entry.held {
+                None => None,
+                Some(content) => Some(content.bytes()),
+            },
+        }
+    }
+}
+
+impl Folder for MemFolder {
+    type File = MemFile;
+
+    ghost use Rattle.std.specs.Prelude.{true, refl};
+    ghost use Rattle.mem_folder.specs.Memory.{port_of};
+    ghost use Rattle.mem_folder.specs.Plans.{is_sound, sound_count};
+
+    ghost tells = { true };
+
+    ghost port = { λ folder. port_of folder.chain };
+
+    ghost state = { λ file. file.content };
+
+    ghost count = { λ folder. folder.faults.count };
+
+    ghost sound = { λ folder. is_sound folder.faults };
+
+    ghost file_fits = { λ file _. file.fits };
+
+    ghost sound_count = { λ folder sound. sound_count folder.faults sound };
+
+    ghost lawful = { λ folder _. folder.lawful };
+
+    ghost file_named = { λ file _. (file.name, refl) };
+
+    fn faults(&self) -> u64 {
+        self.faults.count
+    }
+
+    fn fork(&mut self) -> Result<MemFolder, Memory>
+        ensures fresh { IfOk result (λ fork. IsEmptyPort (port_of fork.chain)) }
+        ensures fresh_count { IfOk result (λ fork. fork.faults.count ≡ 0) }
+        ensures fresh_sound { is_sound self.old.faults ≡ true → IfOk result (λ fork. is_sound fork.faults ≡ true) }
+        ensures planned { IfOk result (λ fork. ForksPlan self.old.faults self.new.faults fork.faults) }
+        ensures same { self.new.chain ≡ self.old.chain }
+        ensures counts { self.new.faults.count ≡ self.old.faults.count }
+        ensures stays_sound { StaysSound (is_sound self.old.faults) (is_sound self.new.faults) self.new.faults.count }
+    {
+        Ok(MemFolder {
+            chain: Chain::empty(),
+            faults: self.faults.fork(self.alloc),
+            alloc: self.alloc,
+        })
+    }
+
+    fn adopt(&mut self, other: MemFolder)
+        requires { CanJoin (port_of self.old.chain) (port_of other.chain) }
+        ensures joined { Joins (port_of self.old.chain) (port_of other.chain) (port_of self.new.chain) }
+        ensures planned { KeepsPlan self.old.faults self.new.faults }
+        ensures added { self.new.faults.count ≡ min (self.old.faults.count + other.faults.count) (2 ^ 64 - 1) }
+        ensures kept { self.old.faults.count ≤ self.new.faults.count }
+        ensures stays_sound { is_sound other.faults ≡ true
+            → StaysSound (is_sound self.old.faults) (is_sound self.new.faults) self.new.faults.count }
+    {
+        let MemFolder {
+            mut chain,
+            faults,
+            alloc: _,
+        } = other;
+        let here = std::mem::replace(&mut self.chain, Chain::empty());
+        chain.absorb(here);
+        self.chain = chain;
+        self.faults.adopt(faults);
+    }
+
+    fn names(&mut self) -> Result<Vec<ChunkName>, FolderRefusal>
+        ensures valid { IfOk result (λ names. All IsChunkName names.items) }
+        ensures listed { IfOk result (λ names. IsListing (port_of self.old.chain) names.items) }
+        ensures same { self.new.chain ≡ self.old.chain }
+        ensures planned { FollowsPlan self.old.faults self.new.faults (is_fault result) }
+        ensures counts { CountsFault (is_fault result) self.old.faults.count self.new.faults.count }
+        ensures stays_sound { StaysSound (is_sound self.old.faults) (is_sound self.new.faults) self.new.faults.count }
+    {
+        self.strike()?;
+        let mut names = Vec::new(self.alloc);
+        self.chain.list(&mut names)?;
+        Ok(names)
+    }
+
+    fn take(&mut self, name: ChunkName) -> Result<MemFile, FolderRefusal>
+        requires valid { IsChunkName name }
+        requires held { IsSome ((port_of self.old.chain).held name) }
+        ensures taken { OnOk result (Takes (port_of self.old.chain) (port_of self.new.chain) name) }
+        ensures file { IfOk result (λ file. (file.name ≡ name) × (Some file.content ≡ (port_of self.old.chain).held name)) }
+        ensures refused { OnErr result (self.new.chain ≡ self.old.chain) }
+        ensures planned { FollowsPlan self.old.faults self.new.faults (is_fault result) }
+        ensures counts { CountsFault (is_fault result) self.old.faults.count self.new.faults.count }
+        ensures stays_sound { StaysSound (is_sound self.old.faults) (is_sound self.new.faults) self.new.faults.count }
+    {
+        self.strike()?;
+        let node = Chain::spare(self.alloc)?;
+        let content = self.chain.lend(name);
+        Ok(MemFile::of(name, content, node))
+    }
+
+    fn create(&mut self, name: ChunkName) -> Result<MemFile, FolderRefusal>
+        requires valid { IsChunkName name }
+        requires free { IsFreeName (port_of self.old.chain) name }
+        ensures created { OnOk result (Creates (port_of self.old.chain) (port_of self.new.chain) name) }
+        ensures file { IfOk result (λ file. (file.name ≡ name) × (file.content ≡ new_file)) }
+        ensures refused { OnErr result (self.new.chain ≡ self.old.chain) }
+        ensures planned { FollowsPlan self.old.faults self.new.faults (is_fault result) }
+        ensures counts { CountsFault (is_fault result) self.old.faults.count self.new.faults.count }
+        ensures stays_sound { StaysSound (is_sound self.old.faults) (is_sound self.new.faults) self.new.faults.count }
+    {
+        self.strike()?;
+        let node = Chain::spare(self.alloc)?;
+        let file = MemFile::new(self.alloc, name)?;
+        let entry = Entry::created();
+        self.chain.merge(Slot { name, entry }, node);
+        Ok(file)
+    }
+
+    fn append(&mut self, file: &mut MemFile, piece: &[u8]) -> Result<(), FolderRefusal>
+        ensures appended { OnOk result (file.new.content ≡ with_bytes file.old.content piece.now) }
+        ensures failed { IsErrOf result FolderRefusal.Fault
+            → (file.new.content ≡ with_bytes file.old.content (take (length piece.now / 2) piece.now))
+            ⊎ (file.new.content ≡ file.old.content) }
+        ensures memory { IsErrOf result FolderRefusal.Memory → file.new.content ≡ file.old.content }
+        ensures name { file.new.name ≡ file.old.name }
+        ensures same { self.new.chain ≡ self.old.chain }
+        ensures planned { FollowsPlan self.old.faults self.new.faults (is_fault result) }
+        ensures counts { CountsFault (is_fault result) self.old.faults.count self.new.faults.count }
+        ensures stays_sound { StaysSound (is_sound self.old.faults) (is_sound self.new.faults) self.new.faults.count }
+    {
+        if let Err(refusal) = self.strike() {
+            file.append_half(piece);
+            return Err(refusal);
+        }
+        file.append(piece)?;
+        Ok(())
+    }
+
+    fn sync_file(&mut self, file: &mut MemFile) -> Result<(), FolderRefusal>
+        ensures synced { OnOk result (file.new.content ≡ synced_file file.old.content) }
+        ensures refused { OnErr result (file.new.content ≡ file.old.content) }
+        ensures name { file.new.name ≡ file.old.name }
+        ensures same { self.new.chain ≡ self.old.chain }
+        ensures planned { FollowsPlan self.old.faults self.new.faults (is_fault result) }
+        ensures counts { CountsFault (is_fault result) self.old.faults.count self.new.faults.count }
+        ensures stays_sound { StaysSound (is_sound self.old.faults) (is_sound self.new.faults) self.new.faults.count }
+    {
+        self.strike()?;
+        file.sync();
+        Ok(())
+    }
+
+    fn sync_names(&mut self) -> Result<(), FolderRefusal>
+        ensures synced { OnOk result (SyncsNames (port_of self.old.chain) (port_of self.new.chain)) }
+        ensures refused { OnErr result (self.new.chain ≡ self.old.chain) }
+        ensures planned { FollowsPlan self.old.faults self.new.faults (is_fault result) }
+        ensures counts { CountsFault (is_fault result) self.old.faults.count self.new.faults.count }
+        ensures stays_sound { StaysSound (is_sound self.old.faults) (is_sound self.new.faults) self.new.faults.count }
+    {
+        self.strike()?;
+        self.chain.sync();
+        Ok(())
+    }
+
+    fn mark(&self, file: &mut MemFile) -> bool {
+        let fixed = self.chain.is_fixed(file.name());
+        if fixed {
+            file.fix_name();
+        }
+        fixed
+    }
+
+    fn read(&mut self, file: &mut MemFile, at: u64, into: &mut [u8]) -> Result<usize, FolderRefusal>
+        ensures given { IfOk result (λ count. IsReadAt file.old.content.bytes at into.new count) }
+        ensures moved { IfOk result (λ count. MovesBytes file.old.content.bytes at into.old into.new count) }
+        ensures refused { OnErr result (into.new ≡ into.old) }
+        ensures bound { IfOk result (λ count. count ≤ length into.new) }
+        ensures file { file.new.content ≡ file.old.content }
+        ensures name { file.new.name ≡ file.old.name }
+        ensures same { self.new.chain ≡ self.old.chain }
+        ensures planned { FollowsPlan self.old.faults self.new.faults (is_fault result) }
+        ensures counts { CountsFault (is_fault result) self.old.faults.count self.new.faults.count }
+        ensures stays_sound { StaysSound (is_sound self.old.faults) (is_sound self.new.faults) self.new.faults.count }
+    {
+        self.strike()?;
+        Ok(file.read(at, into))
+    }
+
+    fn remove(&mut self, file: MemFile) -> Result<(), RemoveRefusal<MemFile>>
+        ensures removed { Removes (port_of self.old.chain) (port_of self.new.chain) file.name file.content }
+        ensures done { kept_file result ≡ None }
+        ensures planned { FollowsPlan self.old.faults self.new.faults (is_remove_fault result) }
+        ensures counts { CountsFault (is_remove_fault result) self.old.faults.count self.new.faults.count }
+        ensures stays_sound { StaysSound (is_sound self.old.faults) (is_sound self.new.faults) self.new.faults.count }
+    {
+        let struck = self.strike();
+        let (slot, node) = file.into_removed_slot();
+        self.chain.merge(slot, node);
+        match struck {
+            Ok(()) => Ok(()),
+            Err(_refusal) => Err(RemoveRefusal::Fault),
+        }
+    }
+
+    fn give(&mut self, file: MemFile)
+        ensures given { Gives (port_of self.old.chain) (port_of self.new.chain) file.name file.content }
+        ensures same { self.new.faults ≡ self.old.faults }
+    {
+        let (slot, node) = file.into_slot();
+        self.chain.merge(slot, node);
+    }
+}
+
+#[cfg(test)]
+mod tests;
