@@ -39,7 +39,7 @@ impl From<Memory> for ReplayRefusal {
 /// The maps that found records restart to, and the number of the next record. The records may stand in any order, and
 /// one of them several times.
 ///
-/// Each record is moved out of the list before it is played, so that no key and no value stands in memory twice.
+/// Each record is moved out of the list as it is played. Its value is shared and not copied.
 pub fn replay(alloc: Global, found: FoundRecords) -> Result<Replayed, ReplayRefusal>
     requires { All IsRecord (records_of found) }
     ensures restart { IfOk result (λ replayed. IsRestartOf (facts_in found) replayed.map.entries) }
