@@ -73,6 +73,20 @@ fn expect_held(rt: &impl Abort, folder: &MemFolder, bytes: &[u8], front: usize, 
     }
 }
 
+/// Checks which bytes of a name are held, if any.
+fn expect_bytes(
+    rt: &impl Abort,
+    folder: &MemFolder,
+    name: ChunkName,
+    wanted: Option<&[u8]>,
+    label: &str,
+) {
+    match wanted {
+        Some(bytes) => assert_eq!(rt; folder.bytes(name), Some(bytes), "{label}: {name:?}"),
+        None => assert!(rt; folder.bytes(name).is_none(), "{label}: {name:?}"),
+    }
+}
+
 /// Checks how often the disk failed, and what is known of the name.
 fn expect_port(rt: &impl Abort, folder: &MemFolder, faults: u64, wanted: Known) {
     assert_eq!(rt; folder.faults(), faults);
@@ -393,12 +407,12 @@ fn expect_after_crash(
     let file = take(rt, &mut folder, NAME)?;
     let done = remove(&mut folder, file).is_ok();
     assert!(rt; done);
-    assert_eq!(rt; folder.bytes(NAME), None, "{label}");
+    expect_bytes(rt, &folder, NAME, None, label);
     if synced {
         sync_names(&mut folder)?;
     }
     let left = crash(rt, folder, pick);
-    assert_eq!(rt; left.bytes(NAME), wanted, "{label}");
+    expect_bytes(rt, &left, NAME, wanted, label);
     Ok(())
 }
 
@@ -524,10 +538,11 @@ fn expect_left(rt: &impl Abort, alloc: Global, row: Left) -> Result<(), Fail> {
     let folder = varied(rt, alloc)?;
     let left = crash(rt, folder, row.pick);
     let kinds = [Kind::T, Kind::V, Kind::W, Kind::X, Kind::Y];
-    for (kind, wanted) in kinds.into_iter().zip(row.bytes) {
-        assert_eq!(rt; left.bytes(name_of(kind)), wanted, "{} {kind:?}", row.label);
+    for place in 0..kinds.len() {
+        let name = name_of(kinds[place]);
+        expect_bytes(rt, &left, name, row.bytes[place], row.label);
     }
-    assert_eq!(rt; left.bytes(name_of(Kind::U)), None, "{}", row.label);
+    expect_bytes(rt, &left, name_of(Kind::U), None, row.label);
     Ok(())
 }
 
