@@ -1,0 +1,8 @@
+use Rattle.std.proofs.Common.{refl}
+use Rattle.hotrestart_cli.proofs.tests.recording.RecordingFolder.remove.Goals as goal
+
+pub returns-in-Ok-clause-removed : goal.returns-in-Ok-clause-removed
+returns-in-Ok-clause-removed g c = λ tells none name is. c.in-Ok.ensures.removed tells refl name is
+
+pub returns-in-Err-Fault-clause-removed : goal.returns-in-Err-Fault-clause-removed
+returns-in-Err-Fault-clause-removed g c = λ tells none name is. c.in-Err-Fault.ensures.removed tells refl name is
