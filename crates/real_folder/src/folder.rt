@@ -1,0 +1,447 @@
+//! A port of a folder on a disk.
+
+ghost use Rattle.std.specs.Prelude.{◌≡◌, ◌≤◌, ◌+◌, ◌-◌, ◌^◌, None, Some, true, false, All, IfOk, OnOk, MatchOption, is_none, length, min};
+ghost use Rattle.std.specs.declared.io.ErrorKind.TheVariants.{OutOfMemory};
+ghost use Rattle.std.specs.IoError.{error_kind};
+ghost use Rattle.hr_base.specs.Names.{IsChunkName};
+ghost use Rattle.dir_files.specs.Faults.{is_disk, is_fault, is_remove_fault, CountsFault};
+ghost use Rattle.real_folder.specs.Disk.{Notes, first_of};
+
+use crate::error::{DiskCall, DiskError, Place};
+use crate::faults::Faults;
+use crate::file::{Opened, RealFile, Seen};
+use dir_files::{Folder, FolderRefusal, RemoveRefusal};
+use hr_base::{ChunkName, Memory, print_name, read_name};
+use std::alloc::AllocError;
+use std::fs::{self, OpenFile, OpenOptions};
+use std::io::{self, ErrorKind, Write};
+use std::os::unix::fs::FileExt;
+use std::rt::Files;
+
+/// The number of a port that was not forked.
+const ROOT: u64 = 0;
+
+/// A port of a folder on a disk. The folder is there before, and other files in it are left alone.
+///
+/// The first error that the system gave is kept. A sync that the system refused is not tried again, at the handle or at
+/// the port: the system may have dropped what it did not write, and would answer the next sync without that. `names`
+/// gives the name of a folder that is named as a chunk file is, and the first read of it is a fault.
+#[derive(Drop)]
+pub struct RealFolder<R> {
+    rt: R,
+    path: String,
+    faults: Faults,
+    /// The number of this port among the forks of the root, where it has one. Forks of forks have none.
+    number: Option<u64>,
+    forks: u64,
+    /// How many directory syncs succeeded here.
+    syncs: u64,
+    /// The system refused a directory sync, here or at a port that was adopted, so it may have dropped names.
+    sync_failed: bool,
+}
+
+/// Adds a chunk's file to the path of its folder.
+fn path_of(folder: &String, name: ChunkName) -> Result<String, AllocError>
+    requires { IsChunkName name }
+{
+    let mut path = folder.clone()?;
+    path.push('/')?;
+    for byte in print_name(name) {
+        path.push(char::from(byte))?;
+    }
+    Ok(path)
+}
+
+impl<R: Files + Alloc + Clone + Drop> RealFolder<R>
+where
+    R::File: FileExt,
+{
+    /// The root port of the folder at this path. It touches no disk and takes no memory. A folder has one root at a
+    /// time: `mark` tells its ports apart by their numbers.
+    pub fn at(rt: R, path: String) -> RealFolder<R>
+        ensures count { ⟦<RealFolder<R> as Folder>⟧.count result ≡ 0 }
+        ensures first { result.faults.first ≡ None }
+    {
+        RealFolder {
+            rt,
+            path,
+            faults: Faults::none(),
+            number: Some(ROOT),
+            forks: 0,
+            syncs: 0,
+            sync_failed: false,
+        }
+    }
+
+    /// The first error that the system gave here, or at a port that was adopted. There is one where the disk failed.
+    pub fn first_error(&self) -> Option<&DiskError>
+        ensures first { MatchOption result (self.now.faults.first ≡ None)
+            (λ error. self.now.faults.first ≡ Some error.now) }
+        ensures known { is_none result ≡ true → ⟦<RealFolder<R> as Folder>⟧.count self.now ≡ 0 }
+    {
+        self.faults.first.as_ref()
+    }
+}
+
+impl<R> RealFolder<R> {
+    /// Counts a fault of the disk, and answers it.
+    fn fault(&mut self, call: DiskCall, place: Place, said: io::Error) -> FolderRefusal
+        ensures answer { result ≡ FolderRefusal.Fault }
+        ensures noted { Notes true self.old.faults self.new.faults }
+    {
+        self.faults.note(DiskError { call, place, said });
+        FolderRefusal::Fault
+    }
+
+    /// Answers an error of the system: a fault, which counts, unless it had no memory.
+    fn refuse(&mut self, call: DiskCall, place: Place, said: io::Error) -> FolderRefusal
+        ensures memory { result ≡ FolderRefusal.Memory → error_kind said ≡ OutOfMemory }
+        ensures noted { Notes (is_disk result) self.old.faults self.new.faults }
+    {
+        if said.kind() == ErrorKind::OutOfMemory {
+            FolderRefusal::Memory
+        } else {
+            self.fault(call, place, said)
+        }
+    }
+
+    /// The same, of the folder itself.
+    fn refuse_folder(&mut self, call: DiskCall, said: io::Error) -> FolderRefusal
+        ensures { Notes (is_disk result) self.old.faults self.new.faults }
+    {
+        let path = self.path.clone().ok();
+        self.refuse(call, Place::Folder(path), said)
+    }
+
+    /// Counts a directory sync that the system refused, and answers it.
+    fn fault_of_sync(&mut self, said: io::Error) -> FolderRefusal
+        ensures answer { result ≡ FolderRefusal.Fault }
+        ensures noted { Notes true self.old.faults self.new.faults }
+    {
+        let path = self.path.clone().ok();
+        self.fault(DiskCall::Sync, Place::Folder(path), said)
+    }
+
+    /// A number for a fork, where it gets one.
+    fn next_number(&mut self) -> Option<u64>
+        ensures { self.new.faults ≡ self.old.faults }
+    {
+        if self.number != Some(ROOT) || self.forks == u64::MAX {
+            return None;
+        }
+        self.forks += 1;
+        Some(self.forks)
+    }
+
+    /// That a file is there now, as a handle remembers it.
+    fn seen_now(&self) -> Option<Seen> {
+        let port = self.number?;
+        let syncs = self.syncs;
+        Some(Seen { port, syncs })
+    }
+}
+
+/// Where an error lies that is a file's.
+fn place_of(name: ChunkName) -> Place
+    requires { IsChunkName name }
+{
+    Place::File(print_name(name))
+}
+
+impl<R: Files> RealFolder<R> {
+    /// Opens a chunk's file.
+    fn open(
+        &mut self,
+        call: DiskCall,
+        name: ChunkName,
+        how: &OpenOptions,
+    ) -> Result<Opened<R::File>, FolderRefusal>
+        requires { IsChunkName name }
+        ensures { Notes (is_fault result) self.old.faults self.new.faults }
+    {
+        let path = path_of(&self.path, name)?;
+        match how.open(&self.rt, path.as_str()) {
+            Ok(file) => Ok(Opened {
+                file,
+                appends: how.asks_append(),
+            }),
+            Err(said) => Err(self.refuse(call, place_of(name), said)),
+        }
+    }
+
+    /// Opens a chunk's file for reading.
+    fn open_to_read(&mut self, name: ChunkName) -> Result<Opened<R::File>, FolderRefusal>
+        requires { IsChunkName name }
+        ensures { Notes (is_fault result) self.old.faults self.new.faults }
+    {
+        let mut how = OpenOptions::new();
+        self.open(DiskCall::Open, name, how.read(true))
+    }
+
+    /// Opens a chunk's file for appending, and for reading.
+    fn open_to_append(&mut self, name: ChunkName) -> Result<Opened<R::File>, FolderRefusal>
+        requires { IsChunkName name }
+        ensures { Notes (is_fault result) self.old.faults self.new.faults }
+    {
+        let mut how = OpenOptions::new();
+        self.open(DiskCall::Open, name, how.read(true).append(true))
+    }
+
+    /// Makes a chunk's file that is not there, and opens it for appending, and for reading.
+    fn open_new(&mut self, name: ChunkName) -> Result<Opened<R::File>, FolderRefusal>
+        requires { IsChunkName name }
+        ensures { Notes (is_fault result) self.old.faults self.new.faults }
+    {
+        let mut how = OpenOptions::new();
+        let how = how.read(true).append(true).create_new(true);
+        self.open(DiskCall::Create, name, how)
+    }
+}
+
+/// Adds the name that a text spells, where that is a chunk's.
+fn add_name(names: &mut Vec<ChunkName>, text: &str) -> Result<(), AllocError>
+    requires { All IsChunkName names.old.items }
+    ensures { OnOk result (All IsChunkName names.new.items) }
+{
+    if let Some(name) = read_name(text.as_bytes()) {
+        names.push(name)?;
+    }
+    Ok(())
+}
+
+/// The names of the chunk files in a folder.
+fn list<R: Files + Alloc + Clone + Drop>(rt: &R, path: &String) -> io::Result<Vec<ChunkName>>
+    ensures { IfOk result (λ names. All IsChunkName names.items) }
+{
+    let mut names = Vec::new(*path.allocator());
+    for entry in fs::read_dir(rt, path.as_str())? {
+        add_name(&mut names, entry?.file_name())?;
+    }
+    Ok(names)
+}
+
+/// What is said of a sync that is not tried again.
+fn not_again() -> io::Error {
+    io::Error::other("an earlier sync failed")
+}
+
+impl<R: Files + Alloc + Clone + Drop> Folder for RealFolder<R>
+where
+    R::File: FileExt,
+{
+    type File = RealFile<R::File>;
+
+    ghost use Rattle.std.specs.Prelude.{false, refl};
+    ghost use Rattle.dir_files.specs.Files.{new_file};
+    ghost use Rattle.real_folder.specs.Disk.{untold};
+    ghost use Rattle.std.proofs.Common.{rules};
+
+    ghost tells = { false };
+
+    ghost port = { λ _. untold };
+
+    ghost state = { λ _. new_file };
+
+    ghost count = { λ folder. folder.faults.count };
+
+    ghost sound = { λ _. false };
+
+    ghost file_fits = { λ file told. Prim.search rules };
+
+    ghost sound_count = { λ folder told. Prim.search rules };
+
+    ghost lawful = { λ folder told. Prim.search rules };
+
+    ghost file_named = { λ file _. (file.name, refl) };
+
+    fn faults(&self) -> u64 {
+        self.faults.count
+    }
+
+    fn fork(&mut self) -> Result<RealFolder<R>, Memory>
+        ensures fresh_count { IfOk result (λ fork. fork.faults.count ≡ 0) }
+        ensures fresh_first { IfOk result (λ fork. fork.faults.first ≡ None) }
+        ensures same { self.new.faults ≡ self.old.faults }
+    {
+        let rt = self.rt.clone()?;
+        let path = self.path.clone()?;
+        let number = self.next_number();
+        Ok(RealFolder {
+            rt,
+            path,
+            faults: Faults::none(),
+            number,
+            forks: 0,
+            syncs: 0,
+            sync_failed: false,
+        })
+    }
+
+    fn adopt(&mut self, other: RealFolder<R>)
+        ensures added { self.new.faults.count ≡ min (self.old.faults.count + other.faults.count) (2 ^ 64 - 1) }
+        ensures kept { self.old.faults.count ≤ self.new.faults.count }
+        ensures first { self.new.faults.first ≡ first_of self.old.faults.first other.faults.first }
+    {
+        let RealFolder {
+            rt: _,
+            path: _,
+            faults,
+            number: _,
+            forks: _,
+            syncs: _,
+            sync_failed,
+        } = other;
+        self.sync_failed = self.sync_failed || sync_failed;
+        self.faults.adopt(faults);
+    }
+
+    fn names(&mut self) -> Result<Vec<ChunkName>, FolderRefusal>
+        ensures valid { IfOk result (λ names. All IsChunkName names.items) }
+        ensures noted { Notes (is_fault result) self.old.faults self.new.faults }
+    {
+        match list(&self.rt, &self.path) {
+            Ok(names) => Ok(names),
+            Err(said) => Err(self.refuse_folder(DiskCall::List, said)),
+        }
+    }
+
+    /// Opens nothing: a file that is not there is found out when it is opened.
+    fn take(&mut self, name: ChunkName) -> Result<RealFile<R::File>, FolderRefusal>
+        requires { IsChunkName name }
+        ensures name { IfOk result (λ file. file.name ≡ name) }
+        ensures noted { Notes (is_fault result) self.old.faults self.new.faults }
+    {
+        Ok(RealFile::new(name, self.seen_now(), None))
+    }
+
+    fn create(&mut self, name: ChunkName) -> Result<RealFile<R::File>, FolderRefusal>
+        requires { IsChunkName name }
+        ensures name { IfOk result (λ file. file.name ≡ name) }
+        ensures noted { Notes (is_fault result) self.old.faults self.new.faults }
+    {
+        let opened = self.open_new(name)?;
+        Ok(RealFile::new(name, self.seen_now(), Some(opened)))
+    }
+
+    /// An error of the write itself is a fault, also where the system had no memory for it, since a part of the piece may
+    /// be written.
+    fn append(&mut self, file: &mut RealFile<R::File>, piece: &[u8]) -> Result<(), FolderRefusal>
+        ensures name { file.new.name ≡ file.old.name }
+        ensures noted { Notes (is_fault result) self.old.faults self.new.faults }
+    {
+        let mut opened = match file.opened.take() {
+            Some(opened) if opened.appends => opened,
+            _ => self.open_to_append(file.name)?,
+        };
+        let written = opened.file.write_all(piece);
+        file.opened = Some(opened);
+        match written {
+            Ok(()) => Ok(()),
+            Err(said) => Err(self.fault(DiskCall::Append, place_of(file.name), said)),
+        }
+    }
+
+    fn sync_file(&mut self, file: &mut RealFile<R::File>) -> Result<(), FolderRefusal>
+        ensures name { file.new.name ≡ file.old.name }
+        ensures noted { Notes (is_fault result) self.old.faults self.new.faults }
+    {
+        let opened = match file.opened.take() {
+            Some(opened) => opened,
+            None => self.open_to_read(file.name)?,
+        };
+        if file.sync_failed {
+            return Err(self.fault(DiskCall::Sync, place_of(file.name), not_again()));
+        }
+        match opened.file.sync_data() {
+            Ok(()) => Ok(()),
+            Err(said) => {
+                file.sync_failed = true;
+                Err(self.fault(DiskCall::Sync, place_of(file.name), said))
+            }
+        }
+    }
+
+    fn sync_names(&mut self) -> Result<(), FolderRefusal>
+        ensures noted { Notes (is_fault result) self.old.faults self.new.faults }
+    {
+        if self.sync_failed {
+            return Err(self.fault_of_sync(not_again()));
+        }
+        let folder = match fs::open(&self.rt, self.path.as_str()) {
+            Ok(folder) => folder,
+            Err(said) => return Err(self.refuse_folder(DiskCall::Open, said)),
+        };
+        match folder.sync_all() {
+            Ok(()) => {
+                self.syncs = self.syncs.saturating_add(1);
+                Ok(())
+            }
+            Err(said) => {
+                self.sync_failed = true;
+                Err(self.fault_of_sync(said))
+            }
+        }
+    }
+
+    /// A name is fixed where this port synced its directory after it first saw the handle.
+    fn mark(&self, file: &mut RealFile<R::File>) -> bool
+        ensures name { file.new.name ≡ file.old.name }
+    {
+        let now = self.seen_now();
+        match (file.seen, now) {
+            (Some(then), Some(now)) if then.port == now.port => then.syncs < now.syncs,
+            _ => {
+                file.seen = now;
+                false
+            }
+        }
+    }
+
+    fn read(
+        &mut self,
+        file: &mut RealFile<R::File>,
+        at: u64,
+        into: &mut [u8],
+    ) -> Result<usize, FolderRefusal>
+        ensures bound { IfOk result (λ count. count ≤ length into.new) }
+        ensures name { file.new.name ≡ file.old.name }
+        ensures noted { Notes (is_fault result) self.old.faults self.new.faults }
+    {
+        let opened = match file.opened.take() {
+            Some(opened) => opened,
+            None => self.open_to_read(file.name)?,
+        };
+        let given = opened.file.read_at(into, at);
+        if opened.appends || matches!(given, Ok(1..)) {
+            file.opened = Some(opened);
+        }
+        match given {
+            Ok(count) => Ok(count),
+            Err(said) => Err(self.refuse(DiskCall::Read, place_of(file.name), said)),
+        }
+    }
+
+    fn remove(&mut self, file: RealFile<R::File>) -> Result<(), RemoveRefusal<RealFile<R::File>>>
+        ensures noted { Notes (is_remove_fault result) self.old.faults self.new.faults }
+    {
+        let Ok(path) = path_of(&self.path, file.name) else {
+            return Err(RemoveRefusal::Memory(file));
+        };
+        match fs::remove_file(&self.rt, path.as_str()) {
+            Ok(()) => Ok(()),
+            Err(said) => match self.refuse(DiskCall::Remove, place_of(file.name), said) {
+                FolderRefusal::Memory => Err(RemoveRefusal::Memory(file)),
+                FolderRefusal::Fault => Err(RemoveRefusal::Fault),
+            },
+        }
+    }
+
+    fn give(&mut self, file: RealFile<R::File>)
+        ensures { self.new.faults ≡ self.old.faults }
+    {
+        drop(file);
+    }
+}
+
+#[cfg(test)]
+mod tests;
