@@ -1,6 +1,6 @@
 //! A writer of the standard library as a sink.
 
-ghost use Rattle.std.specs.Prelude.{◌≡◌, ◌≤◌, None, IfOk, length};
+ghost use Rattle.std.specs.Prelude.{◌≡◌, ◌≤◌, None, IfOk, is_err, length};
 ghost use Rattle.std.specs.Io.KnownBytes.{WriteAppends};
 ghost use Rattle.hr_edges.specs.Edges.{CountsFailure, is_failed_write};
 
@@ -22,6 +22,20 @@ impl<W: Write> StdSink<W> {
         ensures inner { result.inner ≡ inner }
     {
         StdSink { inner, count: 0 }
+    }
+
+    /// Hands on what the writer holds back. Where that fails, some of it may be lost.
+    pub fn flush(&mut self) -> Result<(), Failed>
+        ensures counted { CountsFailure (is_err result)
+            (⟦<StdSink<W> as Sink>⟧.count self.old) (⟦<StdSink<W> as Sink>⟧.count self.new) }
+    {
+        match self.inner.flush() {
+            Ok(()) => Ok(()),
+            Err(_) => {
+                self.count = self.count.saturating_add(1);
+                Err(Failed)
+            }
+        }
     }
 }
 

@@ -1,4 +1,5 @@
 pub mod Fields
 pub mod Lines
 pub mod Replies
+pub mod Dumps
 pub mod Texts

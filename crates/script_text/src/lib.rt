@@ -1,6 +1,7 @@
 //! Scripts and replies as text.
 #![tactic(auto)]
 
+mod entry;
 mod fields;
 mod laws;
 mod line;
@@ -12,6 +13,7 @@ mod script;
 mod tests;
 mod text;
 
+pub use entry::print_entry;
 pub use laws::{
     a_printed_line_is_read, a_read_script_printed, bad_or_script, one_first_bad, one_reading,
 };

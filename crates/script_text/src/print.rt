@@ -81,7 +81,7 @@ pub(crate) fn append_number(out: &mut Vec<u8>, number: u64) -> Result<(), AllocE
 }
 
 // Appends a space and the text of a key or a value. What was there before stays.
-fn append_word(out: &mut Vec<u8>, bytes: &[u8]) -> Result<(), AllocError>
+pub(crate) fn append_word(out: &mut Vec<u8>, bytes: &[u8]) -> Result<(), AllocError>
     ensures ok { OnOk result (out.new.items ≡ out.old.items ++ 32 ∷ text_of bytes.now) }
     ensures kept { take (length out.old.items) out.new.items ≡ out.old.items }
 {
