@@ -6,8 +6,8 @@ use Rattle.script_text.specs.declared.line.Line.{Line}
 use Rattle.script_text.specs.declared.line.Line.TheVariants.{Put, Remove, Clear, Get, Sync}
 use Rattle.script_text.specs.Lines.{partition_of}
 use Rattle.script_text.specs.Replies.{changed_at, command_of_line}
-use Rattle.store_drill.specs.declared.ended.Ended.{Ended}
-use Rattle.store_drill.specs.declared.ended.Ended.TheVariants.{Whole, Sink, Disk, NotBuilt, Memory, Spent}
+use Rattle.restart_load.specs.declared.ended.Ended.{Ended}
+use Rattle.restart_load.specs.declared.ended.Ended.TheVariants.{Whole, Sink, Disk, Memory, Load, Spent}
 
 -- the account after a command that was answered, where there is one
 abbrev pub account_after : Option Command → Account → Account
@@ -46,6 +46,6 @@ abbrev pub accounts_at : Ended → List Line → ℕ → (ℕ → Account) → �
 accounts_at Disk lines count accounts = accounts_after_refused (slice_get lines count) (accounts_after_lines (take count lines) accounts)
 accounts_at Whole lines count accounts = accounts_after_lines (take count lines) accounts
 accounts_at Sink lines count accounts = accounts_after_lines (take count lines) accounts
-accounts_at (NotBuilt name) lines count accounts = accounts_after_lines (take count lines) accounts
+accounts_at (Load refusal) lines count accounts = accounts_after_lines (take count lines) accounts
 accounts_at Memory lines count accounts = accounts_after_lines (take count lines) accounts
 accounts_at (Spent next) lines count accounts = accounts_after_lines (take count lines) accounts

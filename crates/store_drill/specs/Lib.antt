@@ -1,6 +1,6 @@
-pub mod Ends
 pub mod Accounts
+pub mod Dumping
+pub mod Numbers
+pub mod Playing
 pub mod Sessions
 pub mod Writers
-pub mod Playing
-pub mod Listing

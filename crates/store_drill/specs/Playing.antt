@@ -1,10 +1,9 @@
 -- A line of a session, and lines one after another.
-use Rattle.std.specs.Prelude.{◌≡◌, ◌⊎◌, ℕ, ◌+◌, ◌<◌, ◌≤◌, Bool, true, List, length, Option, Some, slice_get, slice_set}
-use Rattle.std.specs.FinMap.{empty}
+use Rattle.std.specs.Prelude.{◌≡◌, ◌⊎◌, ℕ, ◌+◌, ◌<◌, ◌≤◌, Bool, true, List, length, take, Option, Some, slice_get, slice_set}
 use Rattle.hr_base.specs.Counts.{Rose}
 use Rattle.hr_base.specs.declared.limits.TheConstants.{SEQ_END, CHUNK_NO_END, MAX_KEY_LEN, MAX_VALUE_LEN}
 use Rattle.hr_base.specs.Entries.{Entries}
-use Rattle.crash_law.specs.Accounts.{Account, fresh_account}
+use Rattle.crash_law.specs.Accounts.{Account}
 use Rattle.script_text.specs.declared.line.Line.{Line}
 use Rattle.script_text.specs.declared.line.Line.TheVariants.{Put, Remove, Clear, Get, Sync}
 use Rattle.script_text.specs.Lines.{partition_of}
@@ -13,13 +12,16 @@ use Rattle.partition_writer.specs.Standing.{Standing, Beginning, Stands}
 use Rattle.partition_writer.specs.declared.refusal.WriteRefusal.{WriteRefusal}
 use Rattle.partition_writer.specs.declared.refusal.WriteRefusal.TheVariants.{Memory, DiskFault, Halted}
 use Rattle.partition_writer.specs.declared.refusal.WriteRefusal.TheVariants as refusal
-use Rattle.store_drill.specs.declared.ended.Ended.{Ended}
-use Rattle.store_drill.specs.declared.ended.Ended.TheVariants.{Whole, Disk}
+use Rattle.restart_load.specs.declared.ended.Ended.{Ended}
+use Rattle.restart_load.specs.declared.ended.Ended.TheVariants.{Whole, Disk}
+use Rattle.restart_load.specs.declared.ended.Ended.TheVariants as ended
+use Rattle.restart_load.specs.Writers.{EachIs}
 use Rattle.store_drill.specs.declared.step.Step.{Step}
 use Rattle.store_drill.specs.declared.step.Step.TheVariants.{Answered, NoReply, NoMemory, DiskFailed, Spent}
 use Rattle.store_drill.specs.Accounts.{account_after_line, account_after_refused, accounts_at}
+use Rattle.store_drill.specs.Numbers.{IsSpentAt, Start, next_after_line, next_after_lines, writes_line}
 use Rattle.store_drill.specs.Sessions.{TextAt}
-use Rattle.store_drill.specs.Writers.{EachFits, EachIs, HasMaps, HasNumber, IsWhole, StandsAt}
+use Rattle.store_drill.specs.Writers.{EachFits, HasMaps, HasNumber, HaveStart, IsLimited, IsWhole, StandsAt}
 
 -- ---- one line
 
@@ -31,12 +33,16 @@ FitsRecord (Clear p prefix) = Unit {0}
 FitsRecord (Get p prefix key) = Unit {0}
 FitsRecord (Sync p) = Unit {0}
 
--- the disk refused nothing, and at most one number of each kind was used up
+-- the disk refused nothing
 pub record GoesOn (s t : Standing) : Type 0 where
   pub running : t.halted ≡ s.halted
   pub whole : t.lost ≡ s.lost
-  pub next : t.next ≤ s.next + 1
-  pub next_chunk : t.next_chunk ≤ s.next_chunk + 1
+
+-- a number of a record was used up where one was written, and of a chunk no more than one for it
+pub record Counts (line : Line) (s t : Standing) : Type 0 where
+  pub next : t.next ≡ next_after_line line s.maps s.next
+  pub chunks : t.next_chunk + s.next ≤ s.next_chunk + t.next
+  pub limited : IsLimited s → IsLimited t
 
 -- what became of a line that its writer refused
 abbrev pub step_of : WriteRefusal → Step
@@ -45,17 +51,18 @@ step_of DiskFault = DiskFailed
 step_of (Halted at) = DiskFailed
 step_of (refusal.Spent next) = Spent next
 
--- no record or no chunk can have the next number
-abbrev pub IsSpent : Standing → Type 0
-IsSpent s = (SEQ_END ≤ s.next) ⊎ (CHUNK_NO_END ≤ s.next_chunk)
+-- its record would be written, and no record or no chunk can have the number that it would need
+pub record IsSpent (line : Line) (s : Standing) (next : ℕ) : Type 0 where
+  pub written : writes_line line s.maps ≡ true
+  pub limit : ((next ≡ s.next) × (SEQ_END ≤ s.next)) ⊎ ((next ≡ s.next_chunk) × (CHUNK_NO_END ≤ s.next_chunk))
 
--- what is replied, and the maps after it
+-- what is replied, and the maps and numbers after it
 abbrev pub Replies : Step → Line → Standing → Standing → List ℕ → Type 0
-Replies Answered line s t text = (text ≡ text_after line s.maps) × (t.maps ≡ maps_after_line line s.maps) × GoesOn s t
-Replies NoReply line s t text = (t.maps ≡ maps_after_line line s.maps) × GoesOn s t
+Replies Answered line s t text = (text ≡ text_after line s.maps) × (t.maps ≡ maps_after_line line s.maps) × GoesOn s t × Counts line s t
+Replies NoReply line s t text = (t.maps ≡ maps_after_line line s.maps) × GoesOn s t × Counts line s t
 Replies NoMemory line s t text = (t.maps ≡ s.maps) × GoesOn s t
 Replies DiskFailed line s t text = (t.maps ≡ s.maps) × Rose s.faults t.faults
-Replies (Spent next) line s t text = IsSpent s × (t ≡ s)
+Replies (Spent next) line s t text = IsSpent line s next × (t ≡ s)
 
 -- the account after it
 abbrev pub account_after_step : Step → Line → Account → Account
@@ -89,21 +96,10 @@ pub record Played (tells : Bool) (lines : List Line) (old new : List Standing) (
   pub all : ended ≡ Whole → count ≡ length lines
   pub text : (maps : ℕ → Entries) → EachFits HasMaps old maps → TextAt ended lines count maps before now
   pub numbers : EachFits HasNumber old (λ p. p) → EachFits HasNumber new (λ p. p)
+  -- no number was used that none can have, and want of a number ended it only where the next line needs one
+  pub limited : EachIs IsLimited old → (start : Start) → HaveStart old start → (p : ℕ) → p < length old → next_after_lines (take count lines) start.maps start.next p ≤ SEQ_END
+  pub spent : EachIs IsLimited old → (start : Start) → HaveStart old start → (next : ℕ) → ended ≡ ended.Spent next → IsSpentAt lines count start next
   -- unless the disk refused a line, no record lacks bytes
   pub whole : (ended ≡ Disk → ⊥) → EachIs IsWhole new
-  pub account : tells ≡ true → (accounts : ℕ → Account) → EachFits StandsAt old accounts → EachFits StandsAt new (accounts_at ended lines count accounts)
-
--- ---- a session
-
--- The writers after a session that began, with so many partitions. Where there was no memory for all of them, no line was
--- played, and a partition without a writer has nothing.
-pub record Left (tells : Bool) (partitions : ℕ) (lines : List Line) (writers : List Standing) (before now : Option (List ℕ)) (ended : Ended) : Type 0 where
-  pub count : ℕ
-  pub within : count ≤ length lines
-  pub all : ended ≡ Whole → count ≡ length lines
-  pub text : TextAt ended lines count (λ _. empty) before now
-  pub few : length writers ≤ partitions
-  pub numbers : EachFits HasNumber writers (λ p. p)
-  pub whole : (ended ≡ Disk → ⊥) → EachIs IsWhole writers
-  pub account : tells ≡ true → EachFits StandsAt writers (accounts_at ended lines count (λ _. fresh_account empty))
-  pub others : (p : ℕ) → length writers ≤ p → p < partitions → accounts_at ended lines count (λ _. fresh_account empty) p ≡ fresh_account empty
+  pub account : tells ≡ true → (begins : ℕ → Beginning) (accounts : ℕ → Account) → EachFits (StandsAt begins) old accounts
+      → EachFits (StandsAt begins) new (accounts_at ended lines count accounts)

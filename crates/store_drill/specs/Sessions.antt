@@ -1,22 +1,25 @@
 -- What a session finds in a folder, what it writes, and what it leaves there.
-use Rattle.std.specs.Prelude.{◌≡◌, ◌⊎◌, ℕ, ◌+◌, ◌≤◌, Bool, true, List, length, take, Option, None, IsSome}
-use Rattle.std.specs.FinMap.{empty}
+use Rattle.std.specs.Prelude.{◌≡◌, ◌⊎◌, ℕ, ◌+◌, ◌<◌, ◌≤◌, Bool, true, List, length, take, Option, ⊤}
+use Rattle.hr_base.specs.declared.limits.TheConstants.{SEQ_END}
 use Rattle.hr_base.specs.Entries.{Entries}
-use Rattle.hr_base.specs.Names.{IsUpTo}
-use Rattle.hr_base.specs.declared.name.ChunkName.{ChunkName}
 use Rattle.hr_edges.specs.Edges.{Takes, TakesAtLeast}
 use Rattle.hr_edges.specs.declared.sink.Sink.{Ghosts as SinkGhosts}
 use Rattle.dir_files.specs.declared.folder.Folder.{Ghosts as FolderGhosts}
-use Rattle.dir_files.specs.Images.{Image, IsImage, read_of}
+use Rattle.dir_files.specs.Images.{Image, KeepsImages, read_of}
 use Rattle.dir_files.specs.Ports.{Port}
 use Rattle.crash_law.specs.Accounts.{fresh_account}
 use Rattle.crash_law.specs.Crashes.{AllSurvive}
-use Rattle.crash_law.specs.Restarts.{AllRestart}
+use Rattle.crash_law.specs.Restarts.{AllRestart, Fact}
+use Rattle.record_replay.specs.Replays.{IsNext}
 use Rattle.script_text.specs.declared.line.Line.{Line}
 use Rattle.script_text.specs.Replies.{replies}
-use Rattle.store_drill.specs.declared.ended.Ended.{Ended}
-use Rattle.store_drill.specs.declared.ended.Ended.TheVariants.{Whole, Sink, Disk, NotBuilt, Memory, Spent}
+use Rattle.restart_load.specs.Refusals.{IsPrintable, IsRefusedFor, SpeaksOfContent}
+use Rattle.restart_load.specs.Writers.{IsNextChunk}
+use Rattle.restart_load.specs.declared.refusal.RestartRefusal.{RestartRefusal}
+use Rattle.restart_load.specs.declared.ended.Ended.{Ended}
+use Rattle.restart_load.specs.declared.ended.Ended.TheVariants.{Whole, Sink, Disk, Memory, Load, Spent}
 use Rattle.store_drill.specs.Accounts.{accounts_at}
+use Rattle.store_drill.specs.Numbers.{IsSpentAt, Start, next_after_lines}
 
 -- ---- the outside of a session
 
@@ -29,10 +32,14 @@ pub record Outside : Type 0 where
 abbrev pub outside : {F File K : Type 0} → FolderGhosts F File → SinkGhosts K → F → K → Outside
 outside folder sink f k = record { port = folder.port f; faults = folder.count f; taken = sink.taken k }
 
--- a file of this name is held, and of the names of all held files it comes first
-pub record IsFirstHeld (port : Port) (name : ChunkName) : Type 0 where
-  pub held : IsSome (port.held name)
-  pub first : (other : ChunkName) → IsSome (port.held other) → IsUpTo name other
+-- ---- what it begins with
+
+-- The image restarts, each of so many partitions to its maps. Its first number is the least one above those of all its
+-- records, and its first chunk has the least one above those of its chunks that a writer began.
+pub record IsStart (image : Image) (partitions : ℕ) (start : Start) : Type 0 where
+  pub maps : AllRestart image partitions start.maps
+  pub next : (p : ℕ) → p < partitions → IsNext (Fact image p) (start.next p)
+  pub next_chunk : (p : ℕ) → p < partitions → IsNextChunk image p (start.next_chunk p)
 
 -- ---- what it writes
 
@@ -45,37 +52,47 @@ TextAt Disk lines count maps old new = Takes old new (replies (take count lines)
 TextAt (Spent next) lines count maps old new = Takes old new (replies (take count lines) maps)
 TextAt Sink lines count maps old new = (told : ℕ) × (count ≡ told + 1) × TakesAtLeast (length (replies (take told lines) maps)) old new (replies (take count lines) maps)
 TextAt Memory lines count maps old new = (told : ℕ) × (told ≤ count) × (count ≤ told + 1) × Takes old new (replies (take told lines) maps)
-TextAt (NotBuilt name) lines count maps old new = ⊥
+TextAt (Load refusal) lines count maps old new = ⊥
 
 -- ---- what it leaves
 
--- The session was refused before it began: nothing was written, all files are read as before, and every crash leaves
--- what it might have left before.
-pub record NotBegun (tells : Bool) (old new : Outside) (ended : Ended) : Type 0 where
-  -- it did not end whole, and no reply was written
-  pub unfinished : ended ≡ Whole → ⊥
-  pub silent : new.taken ≡ old.taken
-  -- each file has the bytes that it had
-  pub read : tells ≡ true → (name : ChunkName) → read_of new.port name ≡ read_of old.port name
-  -- no image is new
-  pub images : tells ≡ true → (image : Image) → IsImage new.port.held new.port.gone image → IsImage old.port.held old.port.gone image
+-- the end of a session whose folder was not restarted
+abbrev pub IsRefusal : Ended → Type 0
+IsRefusal Memory = ⊤
+IsRefusal Disk = ⊤
+IsRefusal (Load refusal) = SpeaksOfContent refusal × IsPrintable refusal
+IsRefusal Whole = ⊥
+IsRefusal Sink = ⊥
+IsRefusal (Spent next) = ⊥
 
--- The session began, with so many partitions, over a folder without chunk files.
+-- The folder was not restarted: nothing was written, all files are read as before, and every crash leaves what it might
+-- have left before. Where that is for the folder's content, the first thing that is wrong with it is told.
+pub record NotBegun (tells : Bool) (partitions : ℕ) (old new : Outside) (ended : Ended) : Type 0 where
+  pub refusal : IsRefusal ended
+  pub silent : new.taken ≡ old.taken
+  pub content : tells ≡ true → (refusal : RestartRefusal) → ended ≡ Load refusal → IsRefusedFor (read_of old.port) partitions refusal
+  pub images : tells ≡ true → KeepsImages old.port new.port
+
+-- The folder was restarted with so many partitions, and the session began with its lines.
 pub record Session (tells : Bool) (partitions : ℕ) (lines : List Line) (old new : Outside) (ended : Ended) : Type 0 where
+  -- what each partition began with, which is what the folder restarts to
+  pub start : Start
+  pub started : tells ≡ true → IsStart (read_of old.port) partitions start
   -- so many lines were answered, all of them where it was done to its end
   pub count : ℕ
   pub within : count ≤ length lines
   pub all : ended ≡ Whole → count ≡ length lines
   -- the replies that were written
-  pub text : TextAt ended lines count (λ _. empty) old.taken new.taken
-  -- no chunk file was there
-  pub fresh : tells ≡ true → (name : ChunkName) → old.port.held name ≡ None
+  pub text : TextAt ended lines count start.maps old.taken new.taken
+  -- no number was used that none can have, and a session ended for want of a number only where the next line needs one
+  pub limited : tells ≡ true → (p : ℕ) → p < partitions → next_after_lines (take count lines) start.maps start.next p ≤ SEQ_END
+  pub spent : tells ≡ true → (next : ℕ) → ended ≡ Spent next → IsSpentAt lines count start next
   -- every crash leaves each key of each partition its state after a number of its own commands, which holds all that was
   -- synced
-  pub survives : tells ≡ true → AllSurvive new.port.held new.port.gone partitions (accounts_at ended lines count (λ _. fresh_account empty))
+  pub survives : tells ≡ true → AllSurvive new.port.held new.port.gone partitions (accounts_at ended lines count (λ p. fresh_account (start.maps p)))
   -- and unless the disk refused a call, what is read without a crash restarts to exactly the accounts' maps
-  pub exact : tells ≡ true → (ended ≡ Disk → ⊥) → AllRestart (read_of new.port) partitions (λ p. (accounts_at ended lines count (λ _. fresh_account empty) p).maps)
+  pub exact : tells ≡ true → (ended ≡ Disk → ⊥) → AllRestart (read_of new.port) partitions (λ p. (accounts_at ended lines count (λ p. fresh_account (start.maps p)) p).maps)
 
--- it was refused before it began, or it began
+-- its folder was not restarted, or it began
 abbrev pub Ran : Bool → ℕ → List Line → Outside → Outside → Ended → Type 0
-Ran tells partitions lines old new ended = NotBegun tells old new ended ⊎ Session tells partitions lines old new ended
+Ran tells partitions lines old new ended = NotBegun tells partitions old new ended ⊎ Session tells partitions lines old new ended

@@ -1,7 +1,7 @@
-//! Sessions over a script, on one thread.
+//! Sessions over a script, on one thread, and what a folder's maps are.
 #![tactic(auto)]
 
-mod ended;
+mod dumping;
 mod lines;
 mod output;
 mod session;
@@ -10,6 +10,7 @@ mod step;
 mod tests;
 mod writers;
 
-pub use ended::Ended;
+pub use dumping::dump;
 pub use output::write_all;
+pub use restart_load::{Ended, RestartRefusal};
 pub use session::play;

@@ -1,20 +1,20 @@
 //! The lines of a script, one after another.
 
-ghost use Rattle.std.specs.Prelude.{◌≡◌, ◌≤◌, ◌^◌, ℕ, length, All};
+ghost use Rattle.std.specs.Prelude.{◌≡◌, ◌≤◌, length, All};
 ghost use Rattle.hr_base.specs.Counts.{Rose};
-ghost use Rattle.hr_base.specs.declared.name.ChunkName.{ChunkName};
 ghost use Rattle.script_text.specs.declared.line.Mode.TheVariants.{Play};
 ghost use Rattle.script_text.specs.Lines.{IsLine};
-ghost use Rattle.store_drill.specs.declared.ended.Ended.{Ended};
+ghost use Rattle.restart_load.specs.declared.ended.Ended.{Ended};
+ghost use Rattle.restart_load.specs.Writers.{EachIs, standings};
 ghost use Rattle.store_drill.specs.Playing.{Played};
-ghost use Rattle.store_drill.specs.Writers.{EachIs, Goes, faults_of, standings};
+ghost use Rattle.store_drill.specs.Writers.{Runs, faults_of};
 
-use crate::ended::Ended;
 use crate::output::write_all;
 use crate::step::{Step, answer};
 use dir_files::Folder;
 use hr_edges::Sink;
 use partition_writer::Writer;
+use restart_load::Ended;
 use script_text::Line;
 use std::alloc::Global;
 
@@ -27,13 +27,10 @@ pub(crate) fn play_lines<F: Folder, K: Sink>(
     out: &mut K,
 ) -> Ended
     requires valid { All (IsLine Play (length writers.old)) lines.now }
-    requires few { length lines.now ≤ 2 ^ 26 }
-    requires running { EachIs (Goes 1) (standings writers.old) }
+    requires running { EachIs Runs (standings writers.old) }
     ensures played { Played F.tells lines.now (standings writers.old) (standings writers.new) (K.taken out.old) (K.taken out.new) result }
     ensures disk { result ≡ Ended.Disk → 1 ≤ faults_of (standings writers.new) }
     ensures sink { result ≡ Ended.Sink → Rose (K.count out.old) (K.count out.new) }
-    ensures not_built { (name : ChunkName) → result ≡ Ended.NotBuilt name → ⊥ }
-    ensures unspent { (next : ℕ) → result ≡ Ended.Spent next → ⊥ }
     ensures sink_kept { K.count out.old ≤ K.count out.new }
 {
     let mut text = Vec::new(alloc);

@@ -9,7 +9,8 @@ ghost use Rattle.script_text.specs.Lines.{IsLine, partition_of};
 ghost use Rattle.script_text.specs.Replies.{reply_text};
 ghost use Rattle.store_drill.specs.declared.step.Step.{Step};
 ghost use Rattle.store_drill.specs.Playing.{FitsRecord, Plays, PlaysAmong, step_of};
-ghost use Rattle.store_drill.specs.Writers.{EachIs, IsRunning, standings};
+ghost use Rattle.restart_load.specs.Writers.{EachIs, standings};
+ghost use Rattle.store_drill.specs.Writers.{IsRunning};
 
 use dir_files::Folder;
 use hr_base::Partition;
