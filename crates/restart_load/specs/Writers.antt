@@ -10,6 +10,7 @@ use Rattle.dir_files.specs.Images.{Image}
 use Rattle.crash_law.specs.Accounts.{fresh_account}
 use Rattle.crash_law.specs.Restarts.{Fact}
 use Rattle.record_replay.specs.Replays.{IsNext}
+use Rattle.writer_files.specs.Stocks.{files_of}
 use Rattle.partition_writer.specs.declared.writer.Writer.{Writer}
 use Rattle.partition_writer.specs.Standing.{Beginning, Standing, Stands, writer_kind}
 use Rattle.partition_writer.specs.WriterViews.{standing}
@@ -46,7 +47,8 @@ abbrev pub beginning_of : Image → Standing → Beginning
 beginning_of image s = record { found = image; maps = s.maps; first = s.next; first_chunk = s.next_chunk }
 
 -- A writer of the partition that goes on from these files and has done nothing yet. Where the folder tells its content,
--- its maps are those that the files restart to, all of them durable, and its numbers go on from theirs.
+-- it has no file of its own, its maps are those that the files restart to, all of them durable, and its numbers go on
+-- from theirs.
 pub record IsResumed (tells : Bool) (limits : Limits) (image : Image) (p : ℕ) (s : Standing) : Type 0 where
   pub number : s.partition.0 ≡ p
   pub limited : s.limits ≡ limits
@@ -54,6 +56,7 @@ pub record IsResumed (tells : Bool) (limits : Limits) (image : Image) (p : ℕ) 
   pub whole : s.lost ≡ false
   pub records : s.records ≡ []
   pub faults : s.faults ≡ 0
+  pub files : tells ≡ true → (name : ChunkName) → files_of s.stock name ≡ None
   pub next : tells ≡ true → IsNext (Fact image p) s.next
   pub next_chunk : tells ≡ true → IsNextChunk image p s.next_chunk
   pub account : tells ≡ true → Stands s (beginning_of image s) (fresh_account s.maps)
