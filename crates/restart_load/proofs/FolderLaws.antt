@@ -1,8 +1,8 @@
 -- What files in hand tell of a folder, and what it keeps once they are given back.
-use Rattle.std.proofs.Common.{◌≡◌, ◌≢◌, ◌⊎◌, ℕ, zero, suc, ◌+◌, ◌<◌, ◌≤◌, Bool, true, false, List, [], ◌∷◌, ◌++◌, length, map, All, AllPairs, Contains, Option, Some, None, IfSome, IsSome, IsSomeAnd, is_some, get_or, slice_get, refl, ap, sym, ◌∙◌, subst, inl, inr, arith}
+use Rattle.std.proofs.Common.{◌≡◌, ◌≢◌, ◌⊎◌, ℕ, zero, suc, ◌+◌, ◌<◌, ◌≤◌, Bool, true, false, List, [], ◌∷◌, ◌++◌, length, map, take, drop, Result, Ok, Err, IfOk, IfErr, All, AllPairs, Contains, Option, Some, None, IfSome, IsSome, IsSomeAnd, is_some, get_or, slice_get, refl, ap, sym, ◌∙◌, subst, inl, inr, arith}
 use Rattle.std.specs.Option.{option_map}
 use Rattle.std.proofs.lemmas.Bool.{cases_Bool, false≢true}
-use Rattle.std.proofs.lemmas.List.{get_or-map, get_or_default, length-map}
+use Rattle.std.proofs.lemmas.List.{append-nil, drop_all, get_or-map, get_or_default, length-map, take_all}
 use Rattle.std.proofs.lemmas.List.Elements.{All-contains, All-from_get_or, Contains-get_or}
 use Rattle.std.proofs.lemmas.Option.{get_or_from_slice_get, slice_get-get_or, slice_get_within}
 use Rattle.hr_base.specs.declared.limits.TheConstants.{MAX_FILE_LEN}
@@ -207,7 +207,7 @@ module _ (start now : Port) (names : List ChunkName) (files : List TakenFile) (l
 
 -- and is told of the folder
 pub folder_refusal : (tells : Bool) (start : Port) (names : List ChunkName) (files : List TakenFile) (refusal : RestartRefusal) → All IsChunkName names
-    → (tells ≡ true → (name : ChunkName) → StandsLargeAt files name → IsFirstName (IsTooLarge (read_of start)) name)
+    → (tells ≡ true → map (λ (t : TakenFile). t.name) files ≡ names → (name : ChunkName) → StandsLargeAt files name → IsFirstName (IsTooLarge (read_of start)) name)
     → ((name : ChunkName) → refusal ≡ TooLarge name → map (λ (t : TakenFile). t.name) files ≡ names) → IsFirstLarge tells files refusal → IsFolderRefusal tells (read_of start) refusal
 folder_refusal tells start names files Memory valid first named is = tt
 folder_refusal tells start names files DiskFault valid first named is = tt
@@ -215,4 +215,46 @@ folder_refusal tells start names files (Partition name) valid first named is = i
 folder_refusal tells start names files (Damaged name at) valid first named is = is
 folder_refusal tells start names files (Clash p seq) valid first named is = is
 folder_refusal tells start names files (TooLarge name) valid first named is =
-    (All-contains IsChunkName names name valid (subst (λ (list : List ChunkName). Contains list name) (named name refl) is.0), λ told. first told name (is.1 told))
+    (All-contains IsChunkName names name valid (subst (λ (list : List ChunkName). Contains list name) (named name refl) is.0), λ told. first told (named name refl) name (is.1 told))
+
+-- ---- what is answered
+
+-- where a list was written back whole, it is that one
+pub written_back : {A : Type 0} (count : ℕ) (items new : List A) → length new ≡ length items → count ≡ length items → take count (new ++ drop (length new) items) ≡ new
+written_back count items new same all =
+    ap (λ (rest : List _). take count (new ++ rest)) (drop_all (length new) items (omega (arith, same)))
+    ∙ ap (take count) (append-nil new) ∙ take_all count new (omega (arith, same, all))
+
+-- lists with the same names have one length
+pub names_length : (new old : List TakenFile) → map (λ (t : TakenFile). t.name) new ≡ map (λ (t : TakenFile). t.name) old → length new ≡ length old
+names_length new old same = sym (length-map new (λ (t : TakenFile). t.name)) ∙ ap length same ∙ length-map old (λ (t : TakenFile). t.name)
+
+pub first_large_same : (tells : Bool) (old new : List TakenFile) (e : RestartRefusal) → map (λ (t : TakenFile). t.name) new ≡ map (λ (t : TakenFile). t.name) old → (tells ≡ true → new ≡ old)
+    → IsFirstLarge tells old e → IsFirstLarge tells new e
+first_large_same tells old new Memory names same is = tt
+first_large_same tells old new DiskFault names same is = tt
+first_large_same tells old new (Partition name) names same is = is
+first_large_same tells old new (Damaged name at) names same is = is
+first_large_same tells old new (Clash p seq) names same is = is
+first_large_same tells old new (TooLarge name) names same is =
+    (subst (λ (list : List ChunkName). Contains list name) (sym names) is.0, λ told. subst (λ (files : List TakenFile). StandsLargeAt files name) (sym (same told)) (is.1 told))
+
+names_of_bytes : (files : List TakenFile) → map (λ (f : FileBytes). f.name) (map bytes_of files) ≡ map (λ (t : TakenFile). t.name) files
+names_of_bytes [] = refl
+names_of_bytes (t ∷ files) = ap (λ (names : List ChunkName). t.name ∷ names) (names_of_bytes files)
+
+-- what was read is all of the folder's files
+pub all_read : {A E : Type 0} (items : A → List FileBytes) (result : Result A E) (start now : Port) (names : List ChunkName) (files : List TakenFile) → IsListing start names → HasTaken start now files
+    → IfOk result (λ x. items x ≡ map bytes_of files) → IfOk result (λ x. map (λ (f : FileBytes). f.name) (items x) ≡ names) → IfOk result (λ x. AreFilesOf (read_of start) (items x))
+all_read items (Ok x) start now names files listing has read named =
+    subst (AreFilesOf (read_of start)) (sym read)
+    (files_read start now names files listing has (sym (names_of_bytes files) ∙ ap (map (λ (f : FileBytes). f.name)) (sym read) ∙ named))
+all_read items (Err e) start now names files listing has read named = tt
+
+-- and where it was refused, that is told of the folder
+pub all_refused : {A : Type 0} (result : Result A RestartRefusal) (tells : Bool) (start now : Port) (names : List ChunkName) (files : List TakenFile) → All IsChunkName names → InNameOrder names
+    → (tells ≡ true → IsListing start names) → (tells ≡ true → HasTaken start now files) → IfErr result (IsFirstLarge tells files)
+    → IfErr result (λ e. (name : ChunkName) → e ≡ TooLarge name → map (λ (t : TakenFile). t.name) files ≡ names) → IfErr result (IsFolderRefusal tells (read_of start))
+all_refused (Ok x) tells start now names files valid sorted listing has large listed = tt
+all_refused (Err e) tells start now names files valid sorted listing has large listed =
+    folder_refusal tells start names files e valid (λ told named name stands. first_too_large start now names files (listing told) (has told) named name sorted stands) listed large

@@ -2,6 +2,7 @@
 use Rattle.std.proofs.Common.{◌≡◌, ◌⊎◌, ℕ, ◌+◌, ◌<◌, ◌≤◌, Bool, true, List, [], length, map, All, Contains, Option, Some, None, IsSome, slice_get, get_or, refl, ap, sym, ◌∙◌, subst, inl, inr, arith}
 use Rattle.std.specs.Option.{option_map}
 use Rattle.std.proofs.lemmas.Option.{slice_get_within}
+use Rattle.std.proofs.lemmas.List.{get_or-map, length-map}
 use Rattle.std.proofs.lemmas.List.Elements.{All-contains}
 use Rattle.hr_base.specs.declared.limits.Limits.{Limits}
 use Rattle.hr_base.specs.declared.limits.TheConstants.{MAX_FILE_LEN}
@@ -11,8 +12,9 @@ use Rattle.hr_base.specs.declared.name.Kind.TheVariants.{V, T, X, W, U, Y}
 use Rattle.hr_base.specs.Names.{IsChunkName, IsUpTo, class_of_kind}
 use Rattle.hr_base.specs.Entries.{Entries}
 use Rattle.dir_files.specs.Files.{FileState}
-use Rattle.dir_files.specs.Images.{Image, read_of}
+use Rattle.dir_files.specs.Images.{Image, KeepsImages, MayLeave, read_of}
 use Rattle.dir_files.specs.Ports.{IsListing, Port}
+use Rattle.dir_files.specs.PortStates.{IsAtRest, IsGivenBack}
 use Rattle.crash_law.specs.Accounts.{fresh_account}
 use Rattle.crash_law.specs.Placed.{Base}
 use Rattle.crash_law.specs.Restarts.{Agree, Fact, IsRestartable, IsSoundPart}
@@ -24,6 +26,7 @@ use Rattle.restart_load.specs.Loading.{IsReplayOf}
 use Rattle.restart_load.specs.Numbers.{IsNextAmong, IsWriterName, is_writer_kind}
 use Rattle.restart_load.specs.Opening.{AreOpened, CanOpenAll, IsOpened}
 use Rattle.restart_load.specs.Refusals.{IsFirstName, IsRefusedFor, IsStray, NoneStray}
+use Rattle.restart_load.specs.Taking.{IsKept}
 use Rattle.restart_load.specs.Writers.{AreResumed, IsNextChunk, IsResumed, IsWriterChunk, beginning_of}
 use Rattle.restart_load.specs.declared.refusal.RestartRefusal.{RestartRefusal}
 use Rattle.restart_load.proofs.LoadLaws.{IsSmallFile, agree_of_parts, loaded_sound, part_sound, replayed_base, replayed_next}
@@ -175,3 +178,39 @@ module _ (tells : Bool) (limits : Limits) (port : Port) (names : List ChunkName)
         next_chunk = λ y. (told y p s is below).1;
         account = λ y. (told y p s is below).2;
       }
+
+-- and from an image that is read as that of the port
+pub resumed_from : (tells : Bool) (limits : Limits) (start port : Port) (names : List ChunkName) (files : List FileBytes) (parts : List Replayed) (chunks : List ℕ) (writers : List Standing)
+    → AreOpened tells limits parts chunks writers → length writers ≡ limits.partitions → (tells ≡ true → (name : ChunkName) → read_of port name ≡ read_of start name)
+    → (tells ≡ true → (p : ℕ) (s : Standing) → slice_get writers p ≡ Some s → p < limits.partitions → (IsNext (Fact (read_of port) p) s.next) × (IsNextChunk (read_of port) p s.next_chunk) × Stands s (beginning_of (read_of port) s) (fresh_account s.maps))
+    → AreResumed tells limits (read_of start) writers
+resumed_from tells limits start port names files parts chunks writers opened count same facts =
+    all_resumed tells limits start names files parts chunks writers opened count
+    (λ told p s is below.
+        subst (λ (image : Image). (IsNext (Fact image p) s.next) × (IsNextChunk image p s.next_chunk) × Stands s (beginning_of image s) (fresh_account s.maps))
+        (one_image (read_of port) (read_of start) (same told)) (facts told p s is below))
+
+-- ---- what is said of files by their names
+
+pub All-unmap : {X Y : Type 0} (P : Y → Type 0) (f : X → Y) (xs : List X) (ys : List Y) → map f xs ≡ ys → All P ys → All (λ (x : X). P (f x)) xs
+All-unmap P f xs ys is all k d below =
+    subst P (get_or-map f xs k d (f d) below) (subst (λ (list : List _). All P list) (sym is) all k (f d) (omega (arith, below, length-map xs f)))
+
+-- ---- a port that keeps its files
+
+may_kept : (old new gone gone' : Option FileState) (image : Option (List ℕ)) → new ≡ old → gone ≡ None → gone' ≡ None → MayLeave new gone' image → MayLeave old gone image
+may_kept old new gone gone' image same none none' may =
+    subst (λ (o : Option FileState). MayLeave o gone image) same (subst (λ (o : Option FileState). MayLeave new o image) (none' ∙ sym none) may)
+
+pub images_kept : (old new : Port) → IsGivenBack old → IsKept old new → KeepsImages old new
+images_kept old new given kept = record {
+  read = λ name. ap (option_map (λ (f : FileState). f.bytes)) (kept.held name);
+  images = λ image is name. may_kept (old.held name) (new.held name) (old.gone name) (new.gone name) (image name) (kept.held name) (given.gone name) (kept.given_back.gone name) (is name);
+}
+
+pub rest_kept : (old new : Port) → IsKept old new → IsAtRest old → IsAtRest new
+rest_kept old new kept rest = record {
+  given_back = kept.given_back;
+  named = λ name file held. rest.named name file (sym (kept.held name) ∙ held);
+  front = λ name file held. rest.front name file (sym (kept.held name) ∙ held);
+}
