@@ -3,7 +3,7 @@ use Rattle.command_words.specs.declared.parse.WordsRefusal.{WordsRefusal}
 use Rattle.command_words.specs.declared.parse.WordsRefusal.TheVariants as words
 use Rattle.script_text.specs.declared.script.ScriptRefusal.{ScriptRefusal}
 use Rattle.script_text.specs.declared.script.ScriptRefusal.TheVariants as script
-use Rattle.store_drill.specs.declared.ended.Ended.TheVariants.{Memory}
+use Rattle.restart_load.specs.declared.ended.Ended.TheVariants.{Memory}
 use Rattle.hotrestart_cli.specs.declared.input.InputRefusal.{InputRefusal}
 use Rattle.hotrestart_cli.specs.declared.input.InputRefusal.TheVariants as input
 use Rattle.hotrestart_cli.specs.declared.outcome.Outcome.{Outcome}

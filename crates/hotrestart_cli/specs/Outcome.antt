@@ -1,8 +1,11 @@
 -- What the program comes to, and what is told of it.
 use Rattle.std.specs.Prelude.{◌≡◌, ◌⊎◌, ℕ, List, [], ◌++◌, Option, codes, decimal}
-use Rattle.hr_base.specs.Names.{IsChunkName, name_text}
+use Rattle.hr_base.specs.Names.{name_text}
 use Rattle.hr_edges.specs.Edges.{Takes, TakesFront}
-use Rattle.store_drill.specs.declared.ended.Ended.TheVariants.{Whole, Sink, Disk, NotBuilt, Memory, Spent}
+use Rattle.restart_load.specs.Refusals.{IsPrintable}
+use Rattle.restart_load.specs.declared.refusal.RestartRefusal.{RestartRefusal}
+use Rattle.restart_load.specs.declared.refusal.RestartRefusal.TheVariants as refusal
+use Rattle.restart_load.specs.declared.ended.Ended.TheVariants.{Whole, Sink, Disk, Memory, Load, Spent}
 use Rattle.hotrestart_cli.specs.declared.outcome.Outcome.{Outcome}
 use Rattle.hotrestart_cli.specs.declared.outcome.Outcome.TheVariants.{Words, TooLong, BadLine, Input, Ended}
 
@@ -15,9 +18,18 @@ status_of (BadLine number) = 2
 status_of Input = 3
 status_of (Ended Sink) = 4
 status_of (Ended Disk) = 5
-status_of (Ended (NotBuilt name)) = 6
+status_of (Ended (Load refusal)) = 6
 status_of (Ended Memory) = 7
 status_of (Ended (Spent next)) = 8
+
+-- the line that tells what is wrong with a folder
+abbrev pub refusal_text : RestartRefusal → List ℕ
+refusal_text (refusal.Partition name) = codes "refused partition " ++ name_text name ++ codes "\n"
+refusal_text (refusal.TooLarge name) = codes "refused too-large " ++ name_text name ++ codes "\n"
+refusal_text (refusal.Damaged name at) = codes "refused damaged " ++ name_text name ++ codes " " ++ decimal at ++ codes "\n"
+refusal_text (refusal.Clash p seq) = codes "refused clash " ++ decimal p.0 ++ codes " " ++ decimal seq.0 ++ codes "\n"
+refusal_text refusal.Memory = codes "refused memory\n"
+refusal_text refusal.DiskFault = codes "refused disk\n"
 
 -- the line that is written last
 abbrev pub last_line : Outcome → List ℕ
@@ -28,7 +40,7 @@ last_line (BadLine number) = codes "refused line " ++ decimal number ++ codes "\
 last_line Input = codes "refused input\n"
 last_line (Ended Sink) = []
 last_line (Ended Disk) = codes "refused disk\n"
-last_line (Ended (NotBuilt name)) = codes "refused not-built " ++ name_text name ++ codes "\n"
+last_line (Ended (Load refusal)) = refusal_text refusal
 last_line (Ended Memory) = codes "refused memory\n"
 last_line (Ended (Spent next)) = codes "refused spent " ++ decimal next ++ codes "\n"
 
@@ -42,7 +54,7 @@ pub data Tells : Outcome → ℕ → Option (List ℕ) → Option (List ℕ) →
 
 -- what the last line speaks of can be printed
 abbrev pub IsTellable : Outcome → Type 0
-IsTellable (Ended (NotBuilt name)) = IsChunkName name
+IsTellable (Ended (Load refusal)) = IsPrintable refusal
 IsTellable outcome = Unit {0}
 
 -- an outcome that leaves the folder as it was
@@ -58,6 +70,6 @@ CanRefuseWords status = (status ≡ 1) ⊎ (status ≡ 4) ⊎ (status ≡ 7)
 abbrev pub CanRefuse : ℕ → Type 0
 CanRefuse status = (status ≡ 2) ⊎ (status ≡ 3) ⊎ (status ≡ 4) ⊎ (status ≡ 7)
 
--- the statuses that may come where the folder holds a chunk file: 6, unless input, output, disk or memory failed before it was told
+-- the statuses that may come where the folder does not restart: 6, unless input, output, disk or memory failed before it was told
 abbrev pub CanRefuseFolder : ℕ → Type 0
 CanRefuseFolder status = (status ≡ 3) ⊎ (status ≡ 4) ⊎ (status ≡ 5) ⊎ (status ≡ 6) ⊎ (status ≡ 7)

@@ -4,7 +4,7 @@ use Rattle.hr_edges.specs.Edges.{IsRead, ReadsTooMuch}
 use Rattle.script_text.specs.declared.line.Line.{Line}
 use Rattle.script_text.specs.declared.line.Mode.TheVariants.{Play}
 use Rattle.script_text.specs.Lines.{IsLine, IsScript, IsFirstBad}
-use Rattle.store_drill.specs.declared.ended.Ended.TheVariants.{Memory}
+use Rattle.restart_load.specs.declared.ended.Ended.TheVariants.{Memory}
 use Rattle.hotrestart_cli.specs.declared.outcome.Outcome.{Outcome}
 use Rattle.hotrestart_cli.specs.declared.outcome.Outcome.TheVariants.{TooLong, BadLine, Input, Ended}
 

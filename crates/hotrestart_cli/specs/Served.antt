@@ -1,26 +1,31 @@
 -- What the program did.
-use Rattle.std.specs.Prelude.{◌≡◌, ◌⊎◌, ℕ, Bool, true, List, Option, ⊤}
-use Rattle.std.specs.FinMap.{empty}
+use Rattle.std.specs.Prelude.{◌≡◌, ◌⊎◌, ℕ, ◌++◌, Bool, true, List, take, Option, ⊤}
 use Rattle.hr_base.specs.Counts.{Rose}
-use Rattle.hr_base.specs.declared.name.ChunkName.{ChunkName}
+use Rattle.hr_base.specs.Entries.{Entries}
 use Rattle.hr_edges.specs.Edges.{IsRead, Takes}
 use Rattle.hr_edges.specs.declared.sink.Sink.{Ghosts as SinkGhosts}
 use Rattle.hr_edges.specs.declared.source.Source.{Ghosts as SourceGhosts}
-use Rattle.dir_files.specs.Ports.{Port}
+use Rattle.dir_files.specs.Images.{Image}
 use Rattle.dir_files.specs.PortStates.{IsCalm}
 use Rattle.dir_files.specs.declared.folder.Folder.{Ghosts as FolderGhosts}
+use Rattle.crash_law.specs.Restarts.{AllRestart, IsRestartable}
 use Rattle.script_text.specs.declared.line.Line.{Line}
+use Rattle.script_text.specs.Dumps.{dump_lines}
 use Rattle.script_text.specs.Replies.{replies}
 use Rattle.command_words.specs.Words.{IsCommand}
 use Rattle.command_words.specs.declared.read.Command.{Command}
-use Rattle.command_words.specs.declared.read.Command.TheVariants.{Play}
-use Rattle.store_drill.specs.Sessions.{IsFirstHeld, Outside, Ran, outside}
-use Rattle.store_drill.specs.declared.ended.Ended.{Ended as SessionEnd}
-use Rattle.store_drill.specs.declared.ended.Ended.TheVariants.{Disk, NotBuilt, Memory}
+use Rattle.command_words.specs.declared.read.Command.TheVariants.{Play, Dump}
+use Rattle.restart_load.specs.Refusals.{IsRefusedFor, SpeaksOfContent}
+use Rattle.restart_load.specs.declared.refusal.RestartRefusal.{RestartRefusal}
+use Rattle.restart_load.specs.declared.ended.Ended.{Ended as SessionEnd}
+use Rattle.restart_load.specs.declared.ended.Ended.TheVariants.{Disk, Load, Memory, Spent}
+use Rattle.store_drill.specs.Dumping.{Wrote, flat}
+use Rattle.store_drill.specs.Numbers.{IsSpentAt, Start}
+use Rattle.store_drill.specs.Sessions.{IsStart, Outside, Ran, outside}
 use Rattle.hotrestart_cli.specs.declared.outcome.Outcome.{Outcome}
 use Rattle.hotrestart_cli.specs.declared.outcome.Outcome.TheVariants.{Words, TooLong, BadLine, Ended}
 use Rattle.hotrestart_cli.specs.Outcome.{Tells, last_line}
-use Rattle.hotrestart_cli.specs.Scripts.{IsBadAt, IsRefusedScript, IsScriptOf, IsTooLong}
+use Rattle.hotrestart_cli.specs.Scripts.{IsBadAt, IsFit, IsRefusedScript, IsScriptOf, IsTooLong}
 
 -- ---- the world of the program
 
@@ -73,9 +78,15 @@ abbrev pub RanTo : Bool → ℕ → World → World → Outcome → Type 0
 RanTo tells partitions before mid (Ended ended) = RanScript tells partitions before mid ended
 RanTo tells partitions before mid outcome = ⊥
 
+-- so one of a dump did, with no call of the source
+abbrev pub DumpedTo : Bool → ℕ → World → World → Outcome → Type 0
+DumpedTo tells partitions before mid (Ended ended) = Wrote tells partitions before.outside mid.outside ended × (mid.left ≡ before.left)
+DumpedTo tells partitions before mid outcome = ⊥
+
 -- what a command came to before the last line
 abbrev pub CameTo : Bool → Command → World → World → Outcome → Type 0
 CameTo tells (Play limits) before mid outcome = NotPlayed limits.partitions before mid outcome ⊎ RanTo tells limits.partitions before mid outcome
+CameTo tells (Dump limits) before mid outcome = DumpedTo tells limits.partitions before mid outcome
 
 -- Why the program came to this, and what it left before the last line: no command was read, and all is as it was; or
 -- one was, and came to this.
@@ -100,23 +111,70 @@ pub record Served (tells : Bool) (words : List (List ℕ)) (before after : World
 
 -- ---- what a status says
 
--- All lines of the script were done, and their replies were taken: those of a plain finite map for each partition.
-pub record WasPlayed (partitions : ℕ) (left before now : Option (List ℕ)) : Type 0 where
+-- All lines of the script were done, and their replies were taken: those of a plain finite map for each partition, which
+-- begins with what the folder restarts to.
+pub record WasPlayed (tells : Bool) (partitions : ℕ) (image : Image) (left before now : Option (List ℕ)) : Type 0 where
   pub lines : List Line
   pub script : IsScriptOf partitions left lines
-  pub text : Takes before now (replies lines (λ _. empty))
+  pub maps : ℕ → Entries
+  pub restarted : tells ≡ true → AllRestart image partitions maps
+  pub text : Takes before now (replies lines maps)
+
+-- All entries of the maps that the folder restarts to were taken.
+pub record WasDumped (tells : Bool) (partitions : ℕ) (image : Image) (before now : Option (List ℕ)) : Type 0 where
+  pub maps : ℕ → Entries
+  pub restarted : tells ≡ true → AllRestart image partitions maps
+  pub text : Takes before now (flat (dump_lines partitions maps))
 
 -- the command was done to its end
-abbrev pub WasDone : Command → Option (List ℕ) → Option (List ℕ) → Option (List ℕ) → Type 0
-WasDone (Play limits) left before now = WasPlayed limits.partitions left before now
+abbrev pub WasDone : Bool → Command → Image → Option (List ℕ) → Option (List ℕ) → Option (List ℕ) → Type 0
+WasDone tells (Play limits) image left before now = WasPlayed tells limits.partitions image left before now
+WasDone tells (Dump limits) image left before now = WasDumped tells limits.partitions image before now
 
 -- The command's script was refused, and told so: as too long, or by the number of its first bad line.
 abbrev pub WasRefused : Command → Option (List ℕ) → Option (List ℕ) → Option (List ℕ) → Option (List ℕ) → Type 0
 WasRefused (Play limits) left rest before now =
     (IsTooLong left rest × Takes before now (last_line TooLong)) ⊎ ((number : ℕ) × IsBadAt limits.partitions left number × IsRead left rest × Takes before now (last_line (BadLine number)))
+WasRefused (Dump limits) left rest before now = ⊥
 
--- The folder held a chunk file, and the first one by name was told.
-pub record WasNotBuilt (port : Port) (before now : Option (List ℕ)) : Type 0 where
-  pub name : ChunkName
-  pub first : IsFirstHeld port name
-  pub text : Takes before now (last_line (Ended (NotBuilt name)))
+-- how many partitions a command is for
+abbrev pub partitions_of : Command → ℕ
+partitions_of (Play limits) = limits.partitions
+partitions_of (Dump limits) = limits.partitions
+
+-- The folder does not restart with so many partitions, and the first thing that is wrong with it was told.
+pub record WasUnloadable (partitions : ℕ) (image : Image) (before now : Option (List ℕ)) : Type 0 where
+  pub refusal : RestartRefusal
+  pub content : SpeaksOfContent refusal
+  pub first : IsRefusedFor image partitions refusal
+  pub text : Takes before now (last_line (Ended (Load refusal)))
+
+-- Some lines of the script were answered, and the next one would have needed a number that none can have.
+pub record WasSpent (partitions : ℕ) (image : Image) (left before now : Option (List ℕ)) : Type 0 where
+  pub lines : List Line
+  pub script : IsScriptOf partitions left lines
+  pub start : Start
+  pub started : IsStart image partitions start
+  pub count : ℕ
+  pub next : ℕ
+  pub spent : IsSpentAt lines count start next
+  pub text : Takes before now (replies (take count lines) start.maps ++ last_line (Ended (Spent next)))
+
+abbrev pub WasSpentBy : Command → Image → Option (List ℕ) → Option (List ℕ) → Option (List ℕ) → Type 0
+WasSpentBy (Play limits) image left before now = WasSpent limits.partitions image left before now
+WasSpentBy (Dump limits) image left before now = ⊥
+
+-- no line of the script would need a number that none can have
+abbrev pub NeverSpent : ℕ → Image → Option (List ℕ) → Type 0
+NeverSpent partitions image left = (lines : List Line) (start : Start) (count next : ℕ) → IsScriptOf partitions left lines → IsStart image partitions start → ¬ IsSpentAt lines count start next
+
+-- the command reads no script that has to be refused
+abbrev pub ReadsNothingUnfit : Command → Option (List ℕ) → Type 0
+ReadsNothingUnfit (Play limits) left = IsFit limits.partitions left
+ReadsNothingUnfit (Dump limits) left = ⊤
+
+-- nothing stands against the command: its script can be played, and needs no number that none can have, and the folder
+-- restarts
+abbrev pub CanBegin : Command → Image → Option (List ℕ) → Type 0
+CanBegin (Play limits) image left = IsFit limits.partitions left × NeverSpent limits.partitions image left × IsRestartable image limits.partitions
+CanBegin (Dump limits) image left = IsRestartable image limits.partitions

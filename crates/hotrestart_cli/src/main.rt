@@ -3,7 +3,7 @@
 
 ghost use Rattle.std.specs.Prelude.{◌≡◌, ◌≢◌};
 ghost use Rattle.std.specs.declared.io.ErrorKind.TheVariants.{OutOfMemory};
-ghost use Rattle.store_drill.specs.declared.ended.Ended.{Ended};
+ghost use Rattle.restart_load.specs.declared.ended.Ended.{Ended};
 ghost use Rattle.hotrestart_cli.specs.declared.outcome.Outcome.{Outcome};
 
 mod input;
@@ -15,13 +15,17 @@ mod telling;
 mod tests;
 
 use hr_edges::{StdSink, StdSource};
-use mem_folder::MemFolder;
 pub use outcome::Outcome;
+use real_folder::RealFolder;
 pub use serve::serve;
+use std::io::BufWriter;
 use std::process::ExitCode;
 use std::{env, io};
 use store_drill::Ended;
 use telling::tell;
+
+/// How many bytes of output are gathered before they are written.
+const OUTPUT_LEN: usize = 65_536;
 
 /// The words after the program's name.
 fn program_words(rt: &HostRuntime) -> io::Result<Vec<String>> {
@@ -50,21 +54,49 @@ fn print_usage(rt: &HostRuntime) {
     }
 }
 
-fn main(rt: HostRuntime) -> ExitCode {
-    let mut out = StdSink::new(rt.stdout());
-    let status = match program_words(&rt) {
-        Ok(words) => {
-            let mut folder = MemFolder::empty(rt.alloc(), Vec::new(rt.alloc()));
-            let mut input = StdSource::new(rt.stdin());
-            serve(
-                rt.alloc(),
-                words.as_slice(),
-                &mut folder,
-                &mut input,
-                &mut out,
-            )
+/// The folder that the first word names.
+fn folder_named(rt: &HostRuntime, words: &[String]) -> io::Result<RealFolder<HostRuntime>> {
+    let path = match words.first() {
+        Some(word) => word.clone()?,
+        None => String::new(rt.alloc()),
+    };
+    Ok(RealFolder::at(rt.clone()?, path))
+}
+
+/// Does what the words say, with a buffer for the output. The first error of the disk is printed on standard error.
+fn serve_words(rt: &HostRuntime, out: &mut StdSink<BufWriter<io::Stdout>>) -> u8 {
+    let (words, mut folder) = match program_words(rt).and_then(|words| {
+        let folder = folder_named(rt, words.as_slice())?;
+        Ok((words, folder))
+    }) {
+        Ok(found) => found,
+        Err(error) => return tell(rt.alloc(), outcome_without_words(error.kind()), out),
+    };
+    let mut input = StdSource::new(rt.stdin());
+    let status = serve(rt.alloc(), words.as_slice(), &mut folder, &mut input, out);
+    if status == 5 {
+        if let Some(error) = folder.first_error() {
+            let _ = eprintln!(rt; "{error}");
         }
-        Err(error) => tell(rt.alloc(), outcome_without_words(error.kind()), &mut out),
+    }
+    status
+}
+
+fn main(rt: HostRuntime) -> ExitCode {
+    let status = match BufWriter::with_capacity(rt.alloc(), OUTPUT_LEN, rt.stdout()) {
+        Ok(buffer) => {
+            let mut out = StdSink::new(buffer);
+            let status = serve_words(&rt, &mut out);
+            match out.flush() {
+                Ok(()) => status,
+                Err(_) => 4,
+            }
+        }
+        Err(_) => tell(
+            rt.alloc(),
+            Outcome::Ended(Ended::Memory),
+            &mut StdSink::new(rt.stdout()),
+        ),
     };
     if status == 1 {
         print_usage(&rt);

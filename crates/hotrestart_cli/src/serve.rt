@@ -1,20 +1,21 @@
 //! The top call.
 
-ghost use Rattle.std.specs.Prelude.{◌≡◌, ◌≤◌, ◌⊎◌, ℕ, true, None, IsSome};
+ghost use Rattle.std.specs.Prelude.{◌≡◌, ◌≤◌, ◌⊎◌, ℕ, true};
 ghost use Rattle.hr_base.specs.declared.limits.Limits.{Limits};
-ghost use Rattle.hr_base.specs.declared.name.ChunkName.{ChunkName};
 ghost use Rattle.hr_base.specs.Counts.{Rose};
 ghost use Rattle.hr_base.specs.LimitRanges.{IsLimits};
 ghost use Rattle.hr_edges.specs.Edges.{IsRead};
+ghost use Rattle.dir_files.specs.Images.{KeepsImages, read_of};
 ghost use Rattle.dir_files.specs.PortStates.{IsCalm};
 ghost use Rattle.command_words.specs.declared.read.Command.{Command};
 ghost use Rattle.command_words.specs.Words.{IsCommand, texts_of};
-ghost use Rattle.store_drill.specs.declared.ended.Ended.{Ended};
-ghost use Rattle.store_drill.specs.Sessions.{IsFirstHeld};
+ghost use Rattle.restart_load.specs.Refusals.{IsRefusedFor, SpeaksOfContent};
+ghost use Rattle.restart_load.specs.declared.ended.Ended.{Ended};
+ghost use Rattle.restart_load.specs.declared.refusal.RestartRefusal.{RestartRefusal};
 ghost use Rattle.hotrestart_cli.specs.declared.outcome.Outcome.{Outcome};
 ghost use Rattle.hotrestart_cli.specs.Outcome.{IsTellable, IsEarly, CanRefuse, CanRefuseFolder, CanRefuseWords};
 ghost use Rattle.hotrestart_cli.specs.Scripts.{IsFit, IsUnfit};
-ghost use Rattle.hotrestart_cli.specs.Served.{Because, CameTo, IsNoCommand, Means, Served, WasDone, WasNotBuilt, WasRefused, world};
+ghost use Rattle.hotrestart_cli.specs.Served.{Because, CameTo, CanBegin, IsNoCommand, Means, ReadsNothingUnfit, Served, WasDone, WasRefused, WasSpentBy, WasUnloadable, partitions_of, world};
 
 use crate::outcome::Outcome;
 use crate::script::read_lines;
@@ -24,6 +25,7 @@ use dir_files::Folder;
 use hr_base::Limits;
 use hr_edges::{Sink, Source};
 use std::alloc::Global;
+use store_drill::{dump, play};
 
 /// Reads a script and plays it.
 fn play_script<F: Folder, S: Source, K: Sink>(
@@ -45,12 +47,10 @@ fn play_script<F: Folder, S: Source, K: Sink>(
     ensures input { result ≡ Outcome.Input → Rose (S.count input.old) (S.count input.new) }
     ensures sink { result ≡ Outcome.Ended Ended.Sink → Rose (K.count out.old) (K.count out.new) }
     ensures disk { result ≡ Outcome.Ended Ended.Disk → Rose (F.count folder.old) (F.count folder.new) }
-    ensures not_built { F.tells ≡ true → (name : ChunkName) → result ≡ Outcome.Ended (Ended.NotBuilt name) → IsFirstHeld (F.port folder.old) name }
-    ensures spent { (next : ℕ) → result ≡ Outcome.Ended (Ended.Spent next) → ⊥ }
     ensures sink_kept { K.count out.old ≤ K.count out.new }
 {
     match read_lines(alloc, input, limits.partitions) {
-        Ok(script) => Outcome::Ended(store_drill::play(alloc, script.lines(), limits, folder, out)),
+        Ok(script) => Outcome::Ended(play(alloc, script.lines(), limits, folder, out)),
         Err(outcome) => outcome,
     }
 }
@@ -76,12 +76,12 @@ fn run<F: Folder, S: Source, K: Sink>(
     ensures input { result ≡ Outcome.Input → Rose (S.count input.old) (S.count input.new) }
     ensures sink { result ≡ Outcome.Ended Ended.Sink → Rose (K.count out.old) (K.count out.new) }
     ensures disk { result ≡ Outcome.Ended Ended.Disk → Rose (F.count folder.old) (F.count folder.new) }
-    ensures not_built { F.tells ≡ true → (name : ChunkName) → result ≡ Outcome.Ended (Ended.NotBuilt name) → IsFirstHeld (F.port folder.old) name }
-    ensures spent { (next : ℕ) → result ≡ Outcome.Ended (Ended.Spent next) → ⊥ }
+    ensures unread { (limits : Limits) → IsCommand (texts_of words.now) (Command.Dump limits) → input.new ≡ input.old }
     ensures sink_kept { K.count out.old ≤ K.count out.new }
 {
     match read_words(alloc, words) {
         Ok(Command::Play(limits)) => play_script(alloc, &limits, folder, input, out),
+        Ok(Command::Dump(limits)) => Outcome::Ended(dump(alloc, &limits, folder, out)),
         Err(refusal) => Outcome::from(refusal),
     }
 }
@@ -101,17 +101,21 @@ pub fn serve<F: Folder, S: Source, K: Sink>(
     // What was replied, what was refused and why, what every crash leaves, and what is read where the disk did not fail.
     ensures served { Served F.tells (texts_of words.now) (world ⟦<F as Folder>⟧ ⟦<S as Source>⟧ ⟦<K as Sink>⟧ folder.old input.old out.old)
         (world ⟦<F as Folder>⟧ ⟦<S as Source>⟧ ⟦<K as Sink>⟧ folder.new input.new out.new) result }
-    // A script that can be played, a folder without chunk files and no fault: all is done, unless memory is wanting.
-    ensures complete { F.tells ≡ true → (limits : Limits) → IsCommand (texts_of words.now) (Command.Play limits) → IsFit limits.partitions (S.left input.old)
-        → ((name : ChunkName) → (F.port folder.old).held name ≡ None)
+    // A script that can be played, a folder that restarts, numbers for all lines and no fault: all is done, unless memory is
+    // wanting. For a dump the same but for the script and the numbers.
+    ensures complete { F.tells ≡ true → (command : Command) → IsCommand (texts_of words.now) command → CanBegin command (read_of (F.port folder.old)) (S.left input.old)
         → (Rose (S.count input.old) (S.count input.new) → ⊥) → (Rose (K.count out.old) (K.count out.new) → ⊥) → (Rose (F.count folder.old) (F.count folder.new) → ⊥)
         → (result ≡ 0) ⊎ (result ≡ 7) }
 
-    // Status 0: the source was read to its end, the whole script was done, and its replies, all of them and nothing
-    // else, were taken.
-    ensures whole { result ≡ 0 → Means (texts_of words.now) (λ command. WasDone command (S.left input.old) (K.taken out.old) (K.taken out.new)) }
-    // Statuses 0, 5 and 6: the source was read to its end; status 2 says itself how far it was read.
-    ensures ended { (result ≡ 0) ⊎ (result ≡ 5) ⊎ (result ≡ 6) → IsRead (S.left input.old) (S.left input.new) }
+    // Status 0: the whole script was done, or all maps were written, and what was told of that, all of it and nothing else,
+    // was taken.
+    ensures whole { result ≡ 0 → Means (texts_of words.now) (λ command. WasDone F.tells command (read_of (F.port folder.old)) (S.left input.old) (K.taken out.old) (K.taken out.new)) }
+    // Statuses 0, 5, 6 and 8: the source was read to its end; status 2 says itself how far it was read. A dump reads nothing,
+    // and every file keeps its bytes, whatever the status.
+    ensures ended { (limits : Limits) → IsCommand (texts_of words.now) (Command.Play limits) → (result ≡ 0) ⊎ (result ≡ 5) ⊎ (result ≡ 6) ⊎ (result ≡ 8)
+        → IsRead (S.left input.old) (S.left input.new) }
+    ensures unread { (limits : Limits) → IsCommand (texts_of words.now) (Command.Dump limits) → input.new ≡ input.old }
+    ensures unwritten { F.tells ≡ true → (limits : Limits) → IsCommand (texts_of words.now) (Command.Dump limits) → KeepsImages (F.port folder.old) (F.port folder.new) }
     // Status 1: only where the words mean no command. Nothing was touched.
     ensures words { result ≡ 1 → IsNoCommand (texts_of words.now) }
     ensures idle { result ≡ 1 → (folder.new ≡ folder.old) × (input.new ≡ input.old) × (out.new ≡ out.old) }
@@ -128,13 +132,15 @@ pub fn serve<F: Folder, S: Source, K: Sink>(
     ensures input { result ≡ 3 → Rose (S.count input.old) (S.count input.new) }
     ensures sink { result ≡ 4 → Rose (K.count out.old) (K.count out.new) }
     ensures disk { result ≡ 5 → Rose (F.count folder.old) (F.count folder.new) }
-    // Status 6: the folder held a chunk file, and the first of them by name is told, and nothing else. Such a folder is
-    // never played over.
-    ensures not_built { F.tells ≡ true → result ≡ 6 → WasNotBuilt (F.port folder.old) (K.taken out.old) (K.taken out.new) }
-    ensures built { F.tells ≡ true → (limits : Limits) → IsCommand (texts_of words.now) (Command.Play limits) → IsFit limits.partitions (S.left input.old)
-        → (name : ChunkName) → IsSome ((F.port folder.old).held name) → CanRefuseFolder result }
-    // Status 8 never comes: over a folder without chunk files a script has fewer lines than there are numbers.
-    ensures spent { result ≡ 8 → ⊥ }
+    // Status 6: the folder does not restart, the first thing that is wrong with it is told, and nothing else. Such a folder
+    // is never played over, nor written.
+    ensures unloadable { F.tells ≡ true → result ≡ 6
+        → Means (texts_of words.now) (λ command. WasUnloadable (partitions_of command) (read_of (F.port folder.old)) (K.taken out.old) (K.taken out.new)) }
+    ensures loaded { F.tells ≡ true → (command : Command) → IsCommand (texts_of words.now) command → ReadsNothingUnfit command (S.left input.old)
+        → (refusal : RestartRefusal) → SpeaksOfContent refusal → IsRefusedFor (read_of (F.port folder.old)) (partitions_of command) refusal → CanRefuseFolder result }
+    // Status 8: after the lines that were answered the next one would need a number that none can have, and that is told.
+    ensures spent { F.tells ≡ true → result ≡ 8
+        → Means (texts_of words.now) (λ command. WasSpentBy command (read_of (F.port folder.old)) (S.left input.old) (K.taken out.old) (K.taken out.new)) }
 {
     let outcome = run(alloc, words, folder, input, out);
     tell(alloc, outcome, out)

@@ -4,16 +4,17 @@ ghost use Rattle.std.specs.Prelude.{◌≡◌, ◌≤◌, ◌⊎◌, ◌++◌, [
 ghost use Rattle.hr_base.specs.Names.{IsChunkName, name_text};
 ghost use Rattle.hr_base.specs.Counts.{Rose};
 ghost use Rattle.hr_edges.specs.Edges.{Takes, TakesFront};
-ghost use Rattle.store_drill.specs.declared.ended.Ended.{Ended};
+ghost use Rattle.restart_load.specs.declared.ended.Ended.{Ended};
+ghost use Rattle.restart_load.specs.Refusals.{IsPrintable};
 ghost use Rattle.hotrestart_cli.specs.declared.outcome.Outcome.{Outcome};
-ghost use Rattle.hotrestart_cli.specs.Outcome.{Tells, IsTellable, last_line, status_of};
+ghost use Rattle.hotrestart_cli.specs.Outcome.{Tells, IsTellable, last_line, refusal_text, status_of};
 
 use crate::outcome::Outcome;
 use hr_base::print_name;
 use hr_edges::Sink;
 use itoa::Buffer;
 use std::alloc::{AllocError, Global};
-use store_drill::{Ended, write_all};
+use store_drill::{Ended, RestartRefusal, write_all};
 
 /// The status that tells an outcome.
 fn status(outcome: Outcome) -> u8
@@ -27,7 +28,7 @@ fn status(outcome: Outcome) -> u8
         Outcome::Input => 3,
         Outcome::Ended(Ended::Sink) => 4,
         Outcome::Ended(Ended::Disk) => 5,
-        Outcome::Ended(Ended::NotBuilt { name: _ }) => 6,
+        Outcome::Ended(Ended::Load(_)) => 6,
         Outcome::Ended(Ended::Memory) => 7,
         Outcome::Ended(Ended::Spent { next: _ }) => 8,
     }
@@ -51,6 +52,49 @@ fn line_with_number(alloc: Global, front: &[u8], number: u64) -> Result<Vec<u8>,
     line_with(alloc, front, buffer.format(number).as_bytes())
 }
 
+/// A line of a text with two parts of its own.
+fn line_with_two(
+    alloc: Global,
+    front: &[u8],
+    part: &[u8],
+    number: u64,
+) -> Result<Vec<u8>, AllocError>
+    ensures { IfOk result (λ line. line.items ≡ front.now ++ part.now ++ codes " " ++ decimal number ++ codes "\n") }
+{
+    let mut buffer = Buffer::new();
+    let mut line = Vec::from_slice(alloc, front)?;
+    line.extend_from_slice(part)?;
+    line.extend_from_slice(b" ")?;
+    line.extend_from_slice(buffer.format(number).as_bytes())?;
+    line.extend_from_slice(b"\n")?;
+    Ok(line)
+}
+
+/// The line that tells what is wrong with a folder.
+fn refusal_line(alloc: Global, refusal: RestartRefusal) -> Result<Vec<u8>, AllocError>
+    requires { IsPrintable refusal }
+    ensures { IfOk result (λ line. line.items ≡ refusal_text refusal) }
+{
+    match refusal {
+        RestartRefusal::Memory => Vec::from_slice(alloc, b"refused memory\n"),
+        RestartRefusal::DiskFault => Vec::from_slice(alloc, b"refused disk\n"),
+        RestartRefusal::Partition { name } => {
+            line_with(alloc, b"refused partition ", &print_name(name))
+        }
+        RestartRefusal::TooLarge { name } => {
+            line_with(alloc, b"refused too-large ", &print_name(name))
+        }
+        RestartRefusal::Damaged { name, at } => {
+            line_with_two(alloc, b"refused damaged ", &print_name(name), at)
+        }
+        RestartRefusal::Clash { partition, seq } => {
+            let mut buffer = Buffer::new();
+            let part = buffer.format(partition.0);
+            line_with_two(alloc, b"refused clash ", part.as_bytes(), seq.0)
+        }
+    }
+}
+
 /// The line that is written last.
 fn text(alloc: Global, outcome: Outcome) -> Result<Vec<u8>, AllocError>
     requires { IsTellable outcome }
@@ -65,9 +109,7 @@ fn text(alloc: Global, outcome: Outcome) -> Result<Vec<u8>, AllocError>
         Outcome::Input => Vec::from_slice(alloc, b"refused input\n"),
         Outcome::Ended(Ended::Sink) => Ok(Vec::new(alloc)),
         Outcome::Ended(Ended::Disk) => Vec::from_slice(alloc, b"refused disk\n"),
-        Outcome::Ended(Ended::NotBuilt { name }) => {
-            line_with(alloc, b"refused not-built ", &print_name(name))
-        }
+        Outcome::Ended(Ended::Load(refusal)) => refusal_line(alloc, refusal),
         Outcome::Ended(Ended::Memory) => Vec::from_slice(alloc, b"refused memory\n"),
         Outcome::Ended(Ended::Spent { next }) => line_with_number(alloc, b"refused spent ", next),
     }
