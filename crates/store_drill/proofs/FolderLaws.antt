@@ -162,20 +162,20 @@ module _ (tells : Bool) (all rest : List Standing) (s : Standing) (start port : 
 
 -- ---- what writers begin with
 
-maps_in : Option Standing → Entries
+abbrev maps_in : Option Standing → Entries
 maps_in None = empty
 maps_in (Some s) = s.maps
 
-next_in : Option Standing → ℕ
+abbrev next_in : Option Standing → ℕ
 next_in None = 1
 next_in (Some s) = s.next
 
-next_chunk_in : Option Standing → ℕ
+abbrev next_chunk_in : Option Standing → ℕ
 next_chunk_in None = 1
 next_chunk_in (Some s) = s.next_chunk
 
 -- what each partition begins with
-pub started : List Standing → Start
+abbrev pub started : List Standing → Start
 started writers = record {
   maps = λ p. maps_in (slice_get writers p);
   next = λ p. next_in (slice_get writers p);
@@ -183,10 +183,9 @@ started writers = record {
 }
 
 -- and the same, over these files
-pub begins_of : Image → Start → ℕ → Beginning
+abbrev pub begins_of : Image → Start → ℕ → Beginning
 begins_of image start p = record { found = image; maps = start.maps p; first = start.next p; first_chunk = start.next_chunk p }
 
-unfolding started, maps_in, next_in, next_chunk_in
 pub have_started : (writers : List Standing) → HaveStart writers (started writers)
 have_started writers = record {
   maps = λ p s is. sym (ap maps_in is);
@@ -194,11 +193,10 @@ have_started writers = record {
   next_chunk = λ p s is. sym (ap next_chunk_in is);
 }
 
-begins_in : Image → Option Standing → Beginning
+abbrev begins_in : Image → Option Standing → Beginning
 begins_in image o = record { found = image; maps = maps_in o; first = next_in o; first_chunk = next_chunk_in o }
 
 module _ (tells : Bool) (image : Image) (writers : List Standing) (begun : AllBegin tells image writers) (told : tells ≡ true) where
-  unfolding started, begins_of, begins_in, maps_in, next_in, next_chunk_in
   pub begun_stand : EachFits (StandsAt (begins_of image (started writers))) writers (λ p. fresh_account ((started writers).maps p))
   begun_stand p s is = subst (λ (o : Option Standing). Stands s (begins_in image o) (fresh_account (maps_in o))) (sym is) ((begun p s is).account told)
 
@@ -213,7 +211,6 @@ module _ (tells : Bool) (image : Image) (writers : List Standing) (begun : AllBe
   start_at p s is =
       subst (λ (q : ℕ). IsRestartOf (Fact image q) s.maps) (begun p s is).number ((begun p s is).account told).beginning.base.restart
 
-  unfolding started, maps_in, next_in, next_chunk_in
   pub begun_start : IsRestartable image (length writers) → IsStart image (length writers) (started writers)
   begun_start restartable = record {
     maps = record {
@@ -237,9 +234,6 @@ swap None None apart = refl
 swap None (Some f) apart = refl
 swap (Some f) None apart = refl
 swap (Some f) (Some h) apart = absurd (no_some (Some f) f (apart h refl) refl)
-
-durable_of : FileState → FileState
-durable_of file = record { bytes = file.bytes; front = length file.bytes; named = true }
 
 is_durable : (file : FileState) → file.named ≡ true → file.front ≡ length file.bytes → file ≡ record { bytes = file.bytes; front = length file.bytes; named = true }
 is_durable file named front =
@@ -275,7 +269,6 @@ module _ (old : Port) (start : Start) (writers : List Standing) (accounts : ℕ 
   all_own p s is name file there = ((each p s is).own name file there).partition
 
   -- and none of them was found
-  unfolding begins_of
   pub all_apart : EachIs (IsApart old.held) writers
   all_apart p s is name file there =
       let stands = each p s is in
@@ -286,7 +279,6 @@ module _ (old : Port) (start : Start) (writers : List Standing) (accounts : ℕ 
   module _ (partitions : ℕ) (rest : IsAtRest old) (restartable : IsRestartable (read_of old) partitions) (numbers : EachFits HasNumber writers (λ p. p))
       (all : length writers ≡ partitions) (port : Port) (given_back : IsGivenBack port) (held : (name : ChunkName) → port.held name ≡ either_file (old.held name) (files_at writers name)) where
     -- the files of a partition are those of its writer, and those that were found
-    unfolding begins_of
     own_files : (p : ℕ) (s : Standing) → slice_get writers p ≡ Some s → (name : ChunkName) → name.partition.0 ≡ p → port.held name ≡ all_files (files_of s.stock) (read_of old) name
     own_files p s is name of =
         held name ∙ ap (λ (o : Option Standing). either_file (old.held name) (files_in o name)) (ap (slice_get writers) of ∙ is)
@@ -296,7 +288,6 @@ module _ (old : Port) (start : Start) (writers : List Standing) (accounts : ℕ 
     one_at : (p : ℕ) → p < partitions → (s : Standing) × (slice_get writers p ≡ Some s)
     one_at p below = elim (slice_get_cases writers p).1 [ inl there ↦ (there.0, there.2) | inr past ↦ absurd (omega (arith, past.0, below, all)) ]
 
-    unfolding begins_of
     survives_at : (p : ℕ) (s : Standing) → slice_get writers p ≡ Some s → PartSurvives p port.held port.gone (accounts p)
     survives_at p s is =
         part_survives p (all_files (files_of s.stock) (read_of old)) (λ name. None) port.held port.gone (accounts p)
@@ -304,7 +295,6 @@ module _ (old : Port) (start : Start) (writers : List Standing) (accounts : ℕ 
         (subst (λ (q : ℕ). PartSurvives q (all_files (files_of s.stock) (read_of old)) (λ name. None) (accounts p)) (numbers p s is)
         (stand_survives (written s (read_of old)) (start_of (begins_of (read_of old) start p)) (accounts p) (each p s is).facts))
 
-    unfolding begins_of
     restarts_at : (p : ℕ) (s : Standing) → slice_get writers p ≡ Some s → s.lost ≡ false → RestartsAs (read_of port) p (accounts p).maps
     restarts_at p s is whole =
         part_restarts p (λ name. option_map (λ file. file.bytes) (all_files (files_of s.stock) (read_of old) name)) (read_of port) (accounts p).maps
