@@ -18,8 +18,6 @@ use std::alloc::Global;
 pub enum Command {
     /// A session over the lines of a script.
     Play(Limits),
-    /// The maps of a folder, as text.
-    Dump(Limits),
 }
 
 /// The limits where no option is given.
@@ -55,7 +53,6 @@ fn read_command(words: &[String]) -> Option<Command>
     let limits = read_options(verb, options)?;
     Some(match verb {
         Verb::Play => Command::Play(limits),
-        Verb::Dump => Command::Dump(limits),
     })
 }
 

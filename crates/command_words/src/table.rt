@@ -23,7 +23,6 @@ pub const DEFAULT_PERCENT: u8 = 20;
 #[derive(Clone, Copy, Debug, PartialEq, Eq)]
 pub(crate) enum Verb {
     Play,
-    Dump,
 }
 
 /// An option that is followed by its number.
@@ -53,7 +52,7 @@ pub(crate) struct SettingRow {
 
 impl Verb {
     /// Every command that is built.
-    pub(crate) const ALL: [Verb; 2] = [Verb::Play, Verb::Dump];
+    pub(crate) const ALL: [Verb; 1] = [Verb::Play];
 
     /// The command's row of the table.
     pub(crate) fn row(self) -> VerbRow
@@ -69,10 +68,6 @@ impl Verb {
                     Setting::TombLimit,
                     Setting::Percent,
                 ],
-            },
-            Verb::Dump => VerbRow {
-                name: "dump",
-                settings: &[Setting::Partitions],
             },
         }
     }
