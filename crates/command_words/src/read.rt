@@ -18,6 +18,8 @@ use std::alloc::Global;
 pub enum Command {
     /// A session over the lines of a script.
     Play(Limits),
+    /// The entries of all maps as text. Only the count of partitions can be set.
+    Dump(Limits),
 }
 
 /// The limits where no option is given.
@@ -53,6 +55,7 @@ fn read_command(words: &[String]) -> Option<Command>
     let limits = read_options(verb, options)?;
     Some(match verb {
         Verb::Play => Command::Play(limits),
+        Verb::Dump => Command::Dump(limits),
     })
 }
 

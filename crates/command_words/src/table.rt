@@ -23,6 +23,7 @@ pub const DEFAULT_PERCENT: u8 = 20;
 #[derive(Clone, Copy, Debug, PartialEq, Eq)]
 pub(crate) enum Verb {
     Play,
+    Dump,
 }
 
 /// An option that is followed by its number.
@@ -52,7 +53,7 @@ pub(crate) struct SettingRow {
 
 impl Verb {
     /// Every command that is built.
-    pub(crate) const ALL: [Verb; 1] = [Verb::Play];
+    pub(crate) const ALL: [Verb; 2] = [Verb::Play, Verb::Dump];
 
     /// The command's row of the table.
     pub(crate) fn row(self) -> VerbRow
@@ -68,6 +69,10 @@ impl Verb {
                     Setting::TombLimit,
                     Setting::Percent,
                 ],
+            },
+            Verb::Dump => VerbRow {
+                name: "dump",
+                settings: &[Setting::Partitions],
             },
         }
     }
