@@ -74,13 +74,14 @@ first_large tells files now i d (Damaged name at) below names same none is = is
 first_large tells files now i d (Clash p seq) below names same none is = is
 first_large tells files now i d (TooLarge name) below names same none is =
     let within : i < length now = omega (arith, below, sym (length-map now (λ (t : TakenFile). t.name)) ∙ ap length names ∙ length-map files (λ (t : TakenFile). t.name)) in
-    let here : name ≡ (get_or files i d).name = is.0 ∙ one_name files now i d below within names in
-    ((i, omega (arith, below, length-map files (λ (t : TakenFile). t.name)), get_or-map (λ (t : TakenFile). t.name) files i d name below ∙ sym here),
-    λ told. record {
-      place = i;
-      taken = get_or files i d;
-      there = slice_get-get_or files i d below;
-      named = sym here;
-      large = subst (λ (list : List TakenFile). IsLarge (get_or list i d)) (same told) (is.1 told);
-      before = none told;
-    })
+    let here : name ≡ (get_or files i d).name = is.0 ∙ one_name files now i d below within names in (
+      (i, omega (arith, below, length-map files (λ (t : TakenFile). t.name)), get_or-map (λ (t : TakenFile). t.name) files i d name below ∙ sym here),
+      λ told. record {
+        place = i;
+        taken = get_or files i d;
+        there = slice_get-get_or files i d below;
+        named = sym here;
+        large = subst (λ (list : List TakenFile). IsLarge (get_or list i d)) (same told) (is.1 told);
+        before = none told;
+      },
+    )

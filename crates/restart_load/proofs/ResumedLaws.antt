@@ -154,10 +154,11 @@ module _ (tells : Bool) (limits : Limits) (port : Port) (names : List ChunkName)
     pub resumed_at : (p : ℕ) (s : Standing) → slice_get writers p ≡ Some s → p < limits.partitions → tells ≡ true → (IsNext (Fact (read_of port) p) s.next) × (IsNextChunk (read_of port) p s.next_chunk) × Stands s (beginning_of (read_of port) s) (fresh_account s.maps)
     resumed_at p s is below told =
         let found = opened p s is in
-        let one : IsOpened tells limits p found.0 found.1 s = found.4 in
-        (subst (IsNext (Fact (read_of port) p)) (sym one.next) (replayed_next (read_of port) files are p found.0 (replayed p found.0 found.2)),
-        subst (IsNextChunk (read_of port) p) (sym one.next_chunk) (next_chunk port names listing p found.1 (next p found.1 found.3)),
-        one.account told (beginning_of (read_of port) s) (begins p found.0 found.1 s found.2 found.3 one below) refl refl refl)
+        let one : IsOpened tells limits p found.0 found.1 s = found.4 in (
+          subst (IsNext (Fact (read_of port) p)) (sym one.next) (replayed_next (read_of port) files are p found.0 (replayed p found.0 found.2)),
+          subst (IsNextChunk (read_of port) p) (sym one.next_chunk) (next_chunk port names listing p found.1 (next p found.1 found.3)),
+          one.account told (beginning_of (read_of port) s) (begins p found.0 found.1 s found.2 found.3 one below) refl refl refl,
+        )
 
   pub all_resumed : length writers ≡ limits.partitions
       → (tells ≡ true → (p : ℕ) (s : Standing) → slice_get writers p ≡ Some s → p < limits.partitions → (IsNext (Fact (read_of port) p) s.next) × (IsNextChunk (read_of port) p s.next_chunk) × Stands s (beginning_of (read_of port) s) (fresh_account s.maps))
@@ -187,8 +188,8 @@ pub resumed_from : (tells : Bool) (limits : Limits) (start port : Port) (names :
 resumed_from tells limits start port names files parts chunks writers opened count same facts =
     all_resumed tells limits start names files parts chunks writers opened count
     (λ told p s is below.
-        subst (λ (image : Image). (IsNext (Fact image p) s.next) × (IsNextChunk image p s.next_chunk) × Stands s (beginning_of image s) (fresh_account s.maps))
-        (one_image (read_of port) (read_of start) (same told)) (facts told p s is below))
+    subst (λ (image : Image). (IsNext (Fact image p) s.next) × (IsNextChunk image p s.next_chunk) × Stands s (beginning_of image s) (fresh_account s.maps))
+    (one_image (read_of port) (read_of start) (same told)) (facts told p s is below))
 
 -- ---- what is said of files by their names
 

@@ -79,6 +79,7 @@ module _ (t : TakenFile) where
         let rest : in_hand files t.name ≡ None = sym (head_past a files t.name past) ∙ none in
         (push_in_hand files a.name ∙ either_none (in_hand files a.name) (tail_at a.name) apart.0 ∙ tail_past a.name (turned t.name a.name past), apart_push files apart.1 rest)
   ]
+
   pub apart_pop : (files : List TakenFile) → AreApart (files ++ t ∷ []) → AreApart files × (in_hand files t.name ≡ None)
   apart_pop [] apart = (tt, refl)
   apart_pop (a ∷ files) apart =
