@@ -1,5 +1,5 @@
 -- Names in the order of their texts, and listings.
-use Rattle.std.proofs.Common.{◌≡◌, ◌≢◌, ◌⊎◌, ◌<◌, ◌≤◌, ℕ, Bool, false, true, List, [], All, AllPairs, Contains, IsSome, refl, sym, subst, ap, ◌∙◌, get_or, length, take, inl, inr, arith}
+use Rattle.std.proofs.Common.{◌≡◌, ◌⊎◌, ◌<◌, ◌≤◌, ℕ, true, List, All, IsSome, sym, subst, ap, ◌∙◌, get_or, length, take, inl, inr, arith}
 use Rattle.std.specs.List.{IsDistinct}
 use Rattle.std.specs.List.Sorted.{IsPermutation, IsSorted}
 use Rattle.std.proofs.lemmas.Bool.{cases_Bool}

@@ -1,12 +1,11 @@
 -- What becomes of files in hand when one more is taken, and when the last one is given back.
-use Rattle.std.proofs.Common.{◌≡◌, ◌≢◌, ◌⊎◌, ℕ, ◌≤◌, Bool, true, false, ◌||◌, not, List, [], ◌∷◌, ◌++◌, length, Option, Some, None, IfSome, IsSome, IsSomeAnd, is_some, refl, ap, sym, ◌∙◌, subst, inl, inr, arith, if◌then◌else◌}
+use Rattle.std.proofs.Common.{◌≡◌, ◌≢◌, Bool, true, false, ◌||◌, not, List, [], ◌∷◌, ◌++◌, Option, Some, None, IfSome, is_some, refl, ap, sym, ◌∙◌, subst, inl, inr, arith, if◌then◌else◌}
 use Rattle.std.proofs.lemmas.Bool.{cases_Bool, false≢true}
 use Rattle.hr_base.specs.declared.name.ChunkName.{ChunkName}
 use Rattle.hr_base.specs.NameTests.{is_name}
-use Rattle.hr_base.proofs.NameTestLaws.{is_name-other, is_name-same, is_name-true, same_name_or_not}
-use Rattle.dir_files.specs.Files.{FileState, Files, IsDurable, IsFile, KeepsMore, Rises, synced_file}
+use Rattle.hr_base.proofs.NameTestLaws.{is_name-other, is_name-same, same_name_or_not}
+use Rattle.dir_files.specs.Files.{FileState, IsDurable, IsFile, Rises, synced_file}
 use Rattle.dir_files.specs.Ports.{Gives, Port, SamePort, Takes, either_file}
-use Rattle.dir_files.specs.PortStates.{IsGivenBack}
 use Rattle.restart_load.specs.Taking.{AllDurableWith, AllNamed, AreApart, HasTaken, TakenFile, files_with, in_hand}
 
 -- ---- look-ups
