@@ -141,8 +141,8 @@ pub partition_then : (k : ℕ) (maps : ℕ → Entries) (ended : Ended) (a b c :
     → DumpAt ended (dump_lines (k + 1) maps) a c
 partition_then k maps ended a b c first second =
     subst (λ (n : ℕ). DumpAt ended (dump_lines n maps) a c) (next k) (dump_then ended (dump_lines k maps) (lines_of_maps k (maps k)) a b c first second) where
-  next : (k : ℕ) → suc k ≡ k + 1
-  next k = omega arith
+      next : (k : ℕ) → suc k ≡ k + 1
+      next k = omega arith
 
 pub partition_stops : (k n : ℕ) (maps : ℕ → Entries) (ended : Ended) (a b c : Option (List ℕ)) → k < n → (ended ≢ Whole) → DumpAt Whole (dump_lines k maps) a b
     → DumpAt ended (lines_of_maps k (maps k)) b c → DumpAt ended (dump_lines n maps) a c

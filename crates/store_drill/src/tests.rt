@@ -81,7 +81,10 @@ fn a_folder_that_does_not_restart_is_not_touched(rt: HostRuntime) -> Result<(), 
     let script = read_script(alloc, b"0 put 5 k v\n", Mode::Play, LIMITS.partitions)?;
     let mut out = MemSink::new(alloc, 1_000, Vec::new(alloc))?;
     let ended = Ended::Load(RestartRefusal::Partition { name });
-    assert_eq!(rt; play(alloc, script.lines(), &LIMITS, &mut folder, &mut out), ended);
+    assert_eq!(rt;
+        play(alloc, script.lines(), &LIMITS, &mut folder, &mut out),
+        ended
+    );
     assert!(rt; out.taken().is_empty());
     check_dump(&rt, &mut folder, ended, "")?;
     assert_eq!(rt; folder.bytes(name), Some(b"some bytes".as_slice()));

@@ -22,7 +22,7 @@ returns-in-Ok-clause-wrote g c =
     wrote_after g.F.Folder.tells c.args.limits.now.partitions (g.F.Folder.port c.args.folder.now) (g.F.Folder.port c.restart.new.folder) _ (g.F.Folder.count c.restart.new.folder)
     _ (outside g.F.Folder g.K.Sink c.dump_restarted.new.folder c.dump_restarted.new.out) c.dump_restarted.result c.restart.ensures.images
     (subst (λ (partitions : ℕ). Dumped g.F.Folder.tells partitions (outside g.F.Folder g.K.Sink c.restart.new.folder c.args.out.now)
-        (outside g.F.Folder g.K.Sink c.dump_restarted.new.folder c.dump_restarted.new.out) c.dump_restarted.result) c.in-Ok.ensures.each c.dump_restarted.ensures.dumped)
+    (outside g.F.Folder g.K.Sink c.dump_restarted.new.folder c.dump_restarted.new.out) c.dump_restarted.result) c.in-Ok.ensures.each c.dump_restarted.ensures.dumped)
 
 pub returns-in-Err-clause-wrote : goal.returns-in-Err-clause-wrote
 returns-in-Err-clause-wrote g c =
