@@ -1,10 +1,10 @@
 -- The maps of a folder as text: one piece after another.
-use Rattle.std.specs.Prelude.{◌≡◌, ◌≢◌, ◌⊎◌, ℕ, ◌+◌, ◌<◌, ◌≤◌, Bool, true, List, [], ◌∷◌, ◌++◌, length, map, take, Option, Some, None, refl, zero, suc}
+use Rattle.std.specs.Prelude.{◌≡◌, ◌≢◌, ◌⊎◌, ℕ, ◌+◌, ◌<◌, ◌≤◌, Bool, true, List, [], ◌∷◌, ◌++◌, length, map, drop, take, slice_get, slice_index_or, Option, Some, None, refl, zero, suc}
 use Rattle.std.specs.List.{flat_map}
 use Rattle.std.specs.FinMap.{entries as entries_of}
 use Rattle.std.proofs.Common.{sym, ◌∙◌, ap, subst, inl, inr, arith, append_assoc}
 use Rattle.std.proofs.lemmas.Grind.{flat_map-append}
-use Rattle.std.proofs.lemmas.List.{append-nil, take-append-le, take_all}
+use Rattle.std.proofs.lemmas.List.{append-nil, length-append, map-append, take-append-drop, take-append-le, take_all, take_more}
 use Rattle.std.proofs.lemmas.Simd.{map-map}
 use Rattle.std.proofs.Math.Seq.{take-append-add, take-append_seam}
 use Rattle.hr_base.specs.Entries.{Content, Entries, Key}
@@ -17,7 +17,7 @@ use Rattle.dir_files.specs.Files.{FileState}
 use Rattle.hr_base.specs.declared.name.ChunkName.{ChunkName}
 use Rattle.crash_law.specs.Restarts.{AllRestart}
 use Rattle.ram_map.specs.Nested.{triple_of}
-use Rattle.script_text.specs.Dumps.{dump_lines, entry_line, lines_of_maps}
+use Rattle.script_text.specs.Dumps.{dump_lines, entry_text, lines_of_maps}
 use Rattle.partition_writer.specs.Standing.{Standing}
 use Rattle.restart_load.specs.declared.ended.Ended.{Ended}
 use Rattle.restart_load.specs.declared.ended.Ended.TheVariants.{Whole, Sink, Disk, Memory, Load, Spent}
@@ -58,12 +58,10 @@ dump_then Sink xs ys a b c first second =
     (front_of (length (flat xs)) a c (flat xs ++ flat ys) (TakesAtLeast-append a b c (flat xs) (flat ys) first second))
 dump_then Memory xs ys a b c first second = (
   length xs + second.0,
-  (let n : length xs + second.0 ≤ length (xs ++ ys) = omega (arith, second.1, length_both xs ys) in n),
+  (let n : length xs + second.0 ≤ length (xs ++ ys) = omega (arith, second.1, length-append xs ys) in n),
   takes_some a c (flat xs ++ flat (take second.0 ys)) (flat (take (length xs + second.0) (xs ++ ys)))
       (sym (flat_append xs (take second.0 ys)) ∙ ap flat (sym (take-append-add xs ys second.0))) (Takes-append a b c (flat xs) (flat (take second.0 ys)) first second.2),
-) where
-  length_both : (xs ys : List (List ℕ)) → length (xs ++ ys) ≡ length xs + length ys
-  length_both xs ys = omega arith
+)
 dump_then Disk xs ys a b c first second = absurd second
 dump_then (Load refusal) xs ys a b c first second = absurd second
 dump_then (Spent next) xs ys a b c first second = absurd second
@@ -74,7 +72,7 @@ dump_stop Whole xs ys a b other dumped = absurd (other refl)
 dump_stop Sink xs ys a b other dumped = subst (λ (bytes : List ℕ). TakesFront a b bytes) (sym (flat_append xs ys)) (front_more a b (flat xs) (flat ys) dumped)
 dump_stop Memory xs ys a b other dumped = (
   dumped.0,
-  (let n : dumped.0 ≤ length (xs ++ ys) = omega (arith, dumped.1) in n),
+  (let n : dumped.0 ≤ length (xs ++ ys) = omega (arith, dumped.1, length-append xs ys) in n),
   takes_some a b (flat (take dumped.0 xs)) (flat (take dumped.0 (xs ++ ys))) (ap flat (sym (take-append-le dumped.0 xs ys dumped.1))) dumped.2,
 )
 dump_stop Disk xs ys a b other dumped = absurd dumped
@@ -100,7 +98,29 @@ dump_no_memory lines a = (0, omega arith, Takes-nothing a)
 -- ---- entries and maps
 
 pub entry_lines : (p : ℕ) (maps : Entries) → lines_of_entries p (map triple_of (entries_of maps)) ≡ lines_of_maps p maps
-entry_lines p maps = map-map (λ (e : ℕ × List ℕ × List ℕ). _) triple_of (entries_of maps)
+entry_lines p maps = map-map (λ (e : ℕ × List ℕ × List ℕ). entry_text p e.0 e.1 e.2) triple_of (entries_of maps)
+
+-- one more entry
+module _ (p : ℕ) (list : List (ℕ × List ℕ × List ℕ)) (i : ℕ) (e : ℕ × List ℕ × List ℕ) (within : i < length list) (is : e ≡ slice_index_or list i e) where
+  lines_more : lines_of_entries p (take i list) ++ lines_of_entries p (e ∷ []) ≡ lines_of_entries p (take (i + 1) list)
+  lines_more =
+      sym (map-append (λ (x : ℕ × List ℕ × List ℕ). entry_text p x.0 x.1 x.2) (take i list) (e ∷ []))
+      ∙ ap (lines_of_entries p) (ap (λ (x : ℕ × List ℕ × List ℕ). take i list ++ x ∷ []) is ∙ sym (take_more list i e within))
+
+  lines_rest : lines_of_entries p (take (i + 1) list) ++ lines_of_entries p (drop (i + 1) list) ≡ lines_of_entries p list
+  lines_rest =
+      sym (map-append (λ (x : ℕ × List ℕ × List ℕ). entry_text p x.0 x.1 x.2) (take (i + 1) list) (drop (i + 1) list)) ∙ ap (lines_of_entries p) (take-append-drop (i + 1) list)
+
+  pub entry_then : (ended : Ended) (a b c : Option (List ℕ)) → DumpAt Whole (lines_of_entries p (take i list)) a b → DumpAt ended (lines_of_entries p (e ∷ [])) b c
+      → DumpAt ended (lines_of_entries p (take (i + 1) list)) a c
+  entry_then ended a b c first second =
+      subst (λ (lines : List (List ℕ)). DumpAt ended lines a c) lines_more (dump_then ended (lines_of_entries p (take i list)) (lines_of_entries p (e ∷ [])) a b c first second)
+
+  pub entry_stops : (ended : Ended) (a b c : Option (List ℕ)) → (ended ≢ Whole) → DumpAt Whole (lines_of_entries p (take i list)) a b → DumpAt ended (lines_of_entries p (e ∷ [])) b c
+      → DumpAt ended (lines_of_entries p list) a c
+  entry_stops ended a b c other first second =
+      subst (λ (lines : List (List ℕ)). DumpAt ended lines a c) lines_rest
+      (dump_stop ended (lines_of_entries p (take (i + 1) list)) (lines_of_entries p (drop (i + 1) list)) a c other (entry_then ended a b c first second))
 
 -- the lines of more partitions begin with those of the first ones
 pub first_lines : (k n : ℕ) (maps : ℕ → Entries) → k ≤ n → (more : List (List ℕ)) × (dump_lines n maps ≡ dump_lines k maps ++ more)
@@ -115,6 +135,21 @@ first_lines k (suc n) maps less = elim (last_or_not k n less) [
 ] where
   last_or_not : (k n : ℕ) → k ≤ suc n → (k ≡ suc n) ⊎ (k ≤ n)
   last_or_not k n less = grind arith
+
+-- one more partition
+pub partition_then : (k : ℕ) (maps : ℕ → Entries) (ended : Ended) (a b c : Option (List ℕ)) → DumpAt Whole (dump_lines k maps) a b → DumpAt ended (lines_of_maps k (maps k)) b c
+    → DumpAt ended (dump_lines (k + 1) maps) a c
+partition_then k maps ended a b c first second =
+    subst (λ (n : ℕ). DumpAt ended (dump_lines n maps) a c) (next k) (dump_then ended (dump_lines k maps) (lines_of_maps k (maps k)) a b c first second) where
+      next : (k : ℕ) → suc k ≡ k + 1
+      next k = omega arith
+
+pub partition_stops : (k n : ℕ) (maps : ℕ → Entries) (ended : Ended) (a b c : Option (List ℕ)) → k < n → (ended ≢ Whole) → DumpAt Whole (dump_lines k maps) a b
+    → DumpAt ended (lines_of_maps k (maps k)) b c → DumpAt ended (dump_lines n maps) a c
+partition_stops k n maps ended a b c less other first second =
+    let rest = first_lines (suc k) n maps (omega (arith, less)) in
+    subst (λ (lines : List (List ℕ)). DumpAt ended lines a c) (sym rest.1)
+    (dump_stop ended (dump_lines (suc k) maps) rest.0 a c other (dump_then ended (dump_lines k maps) (lines_of_maps k (maps k)) a b c first second))
 
 -- ---- the folder keeps its files
 

@@ -26,7 +26,7 @@ returns-in-Ok-clause-ran g c =
     ran_after g.F.Folder.tells c.args.limits.now.partitions c.args.lines.now (g.F.Folder.port c.args.folder.now) (g.F.Folder.port c.restart.new.folder) _ (g.F.Folder.count c.restart.new.folder)
     _ (outside g.F.Folder g.K.Sink c.play_restarted.new.folder c.play_restarted.new.out) c.play_restarted.result c.restart.ensures.images
     (subst (λ (partitions : ℕ). Session g.F.Folder.tells partitions c.args.lines.now (outside g.F.Folder g.K.Sink c.restart.new.folder c.args.out.now)
-        (outside g.F.Folder g.K.Sink c.play_restarted.new.folder c.play_restarted.new.out) c.play_restarted.result) c.in-Ok.ensures.each c.play_restarted.ensures.session)
+    (outside g.F.Folder g.K.Sink c.play_restarted.new.folder c.play_restarted.new.out) c.play_restarted.result) c.in-Ok.ensures.each c.play_restarted.ensures.session)
 
 pub returns-in-Err-clause-ran : goal.returns-in-Err-clause-ran
 returns-in-Err-clause-ran g c =

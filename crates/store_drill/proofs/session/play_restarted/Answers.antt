@@ -39,7 +39,7 @@ returns-clause-session g c =
     let count : length begun ≡ length c.args.writers.items = length-map c.args.writers.items (λ writer. standing writer) in
     let same : length writers ≡ length begun = length-map c.play_on-ended.new.writers.items (λ writer. standing writer) ∙ c.play_on-ended.ensures.same ∙ sym count in
     subst (λ (partitions : ℕ). Session g.F.Folder.tells partitions c.args.lines.now (outside g.F.Folder g.K.Sink c.args.folder.now c.args.out.now)
-        (outside g.F.Folder g.K.Sink c.close_writers.new.folder c.play_on-ended.new.out) c.play_on-ended.result) count
+    (outside g.F.Folder g.K.Sink c.close_writers.new.folder c.play_on-ended.new.out) c.play_on-ended.result) count
     (session_ran _ _ begun writers _ _ _ c.requires.begun
     (λ y. subst (λ (partitions : ℕ). IsRestartable (read_of (g.F.Folder.port c.args.folder.now)) partitions) (sym count) (c.requires.restartable y))
     c.requires.at_rest c.play_on-ended.ensures.played same c.close_writers.ensures.given_back c.close_writers.ensures.held)

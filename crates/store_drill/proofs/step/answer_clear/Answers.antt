@@ -48,6 +48,6 @@ returns-in-Err g c =
     (c.in-Err.ensures.written (more_unless (count_under c.args.prefix s.maps) (λ none. let h = (c.in-Err.ensures.empty none c.requires.running).0 in cc)))
     c.in-Err.ensures.disk.memory c.in-Err.ensures.disk.cause (λ at is. (c.in-Err.ensures.halted at).0 is) c.requires.running
     (λ next is.
-        let spent = (c.in-Err.ensures.spent next).0 is in
-        record { written = some_less (count_under c.args.prefix s.maps) spent.1; limit = spent_limit s Clears (record_length Clears 0 0) next spent.2 })
+    let spent = (c.in-Err.ensures.spent next).0 is in
+    record { written = some_less (count_under c.args.prefix s.maps) spent.1; limit = spent_limit s Clears (record_length Clears 0 0) next spent.2 })
     (λ a. refl) c.in-Err.ensures.account)

@@ -54,6 +54,6 @@ returns-in-Err g c =
     (c.in-Err.ensures.written (some_unless (get s.maps (key_at c.args.prefix c.args.key.now)) (λ none. let h = (c.in-Err.ensures.absent none c.requires.running).0 in cc)))
     c.in-Err.ensures.disk.memory c.in-Err.ensures.disk.cause (λ at is. (c.in-Err.ensures.halted at).0 is) c.requires.running
     (λ next is.
-        let spent = (c.in-Err.ensures.spent next).0 is in
-        record { written = spent.1; limit = spent_limit s Tomb (record_length Tomb (length c.args.key.now) 0) next spent.2 })
+    let spent = (c.in-Err.ensures.spent next).0 is in
+    record { written = spent.1; limit = spent_limit s Tomb (record_length Tomb (length c.args.key.now) 0) next spent.2 })
     (λ a. refl) c.in-Err.ensures.account)
