@@ -138,9 +138,7 @@ pub fn lines_of(alloc: Global, script: &str) -> Result<Vec<Line>, Fail> {
 pub fn keys_of(alloc: Global, partitions: u8, lines: &[Line]) -> Result<Vec<Maps>, Fail> {
     let mut keys = no_maps(alloc, partitions)?;
     for line in lines {
-        let part = keys
-            .get_mut(line.partition as usize)
-            .ok_or("no partition")?;
+        let part = keys.get_mut(line.partition as usize).ok_or("no partition")?;
         let key = line.deed.key.to_vec(alloc)?;
         part.insert((line.deed.map, key), Vec::new(alloc))?;
     }

@@ -84,7 +84,10 @@ fn sessions_go_on_over_one_folder(rt: HostRuntime) -> Result<(), Fail> {
     let seen = run(&rt, &path, "DIR dump --partitions 3", b"")?;
     let stray = b"refused partition p03-v-0000000000000001.chunk\n";
     seen.expect(&rt, "three partitions", 6, stray, "");
-    assert_eq!(rt; read(&rt, &path, "notes.txt")?.as_slice(), b"mine".as_slice());
+    assert_eq!(rt;
+        read(&rt, &path, "notes.txt")?.as_slice(),
+        b"mine".as_slice()
+    );
     // The notes, and a chunk of values, one of tombstones and one of values of partition 3 beside the first.
     assert_eq!(rt; fs::read_dir(&rt, path.as_str())?.count(), 5);
     fs::remove_dir_all(&rt, path)?;

@@ -13,7 +13,11 @@ use std::test::Fail;
 const FILES: [Stored; 3] = [
     Stored {
         name: V1,
-        pieces: &[V(1, 7, b"a", b"1"), V(2, 7, b"b", b"2"), V(4, 8, b"c", b"3")],
+        pieces: &[
+            V(1, 7, b"a", b"1"),
+            V(2, 7, b"b", b"2"),
+            V(4, 8, b"c", b"3"),
+        ],
     },
     Stored {
         name: T2,
@@ -104,12 +108,7 @@ fn check_call(rt: &impl Abort, alloc: Global, text: &str, call: u64) -> Result<(
 }
 
 /// Each call of a restart fails, and at last the plan strikes no call.
-fn check_calls(
-    rt: &impl Abort,
-    alloc: Global,
-    text: &str,
-    printed: &[u8],
-) -> Result<(), Fail> {
+fn check_calls(rt: &impl Abort, alloc: Global, text: &str, printed: &[u8]) -> Result<(), Fail> {
     for call in 1..=CALLS {
         check_call(rt, alloc, text, call)?;
     }

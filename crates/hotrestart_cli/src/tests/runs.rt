@@ -110,7 +110,10 @@ const NEW: [Row; 14] = [
     },
     Row {
         name: "nothing is put",
-        steps: &[Play(b"0 get 5 k1\n0 sync", b"0 none\n0 synced\n"), Dump(b"")],
+        steps: &[
+            Play(b"0 get 5 k1\n0 sync", b"0 none\n0 synced\n"),
+            Dump(b""),
+        ],
         left: Some(&[]),
         ..ROW
     },

@@ -147,10 +147,7 @@ impl Session {
             printed.extend_from_slice(b"refused disk\n")?;
         }
         assert_eq!(rt; told.printed(), printed.as_slice());
-        assert_eq!(rt;
-            told.status == 0,
-            count_answered(told) == self.lines.len()
-        );
+        assert_eq!(rt; told.status == 0, count_answered(told) == self.lines.len());
         Ok(())
     }
 
@@ -231,7 +228,12 @@ impl Session {
 /// How many chunks of a class there are.
 fn count_chunks(disk: &mut Disk, class: Class) -> Result<usize, Fail> {
     let names = disk.names()?;
-    Ok(names.iter().filter(|name| class_of(name.kind) == class).count())
+    Ok(
+        names
+            .iter()
+            .filter(|name| class_of(name.kind) == class)
+            .count(),
+    )
 }
 
 /// The session without a fault: its chunks of each class are full, and its maps are dumped exactly.
