@@ -7,7 +7,7 @@ use Rattle.std.proofs.lemmas.Str.Parse.{digit_at}
 use Rattle.std.proofs.lemmas.List.Elements.{All-nil, All-cons, All-head, All-tail, All-from_get_or}
 use Rattle.command_words.specs.declared.read.Command.{Command}
 use Rattle.command_words.specs.declared.table.Verb.{Verb}
-use Rattle.command_words.specs.declared.table.Verb.TheVariants.{Play}
+use Rattle.command_words.specs.declared.table.Verb.TheVariants.{Play, Dump}
 use Rattle.command_words.specs.declared.table.Setting.{Setting}
 use Rattle.command_words.specs.declared.table.Setting.TheVariants.{Partitions, ValueLimit, TombLimit, Percent}
 use Rattle.command_words.specs.Table.{verb_name, option_word}
@@ -30,6 +30,7 @@ later_option Percent = record { plain = no_equals (option_word Percent) refl; hy
 
 later_verb : (verb : Verb) → IsLaterWord (verb_name verb)
 later_verb Play = record { plain = no_equals (verb_name Play) refl; hyphen = λ e. absurd (omega (arith, e)) }
+later_verb Dump = record { plain = no_equals (verb_name Dump) refl; hyphen = λ e. absurd (omega (arith, e)) }
 
 later_number : (n : ℕ) → n < 2 ^ 64 → IsLaterWord (decimal n)
 later_number n fits =

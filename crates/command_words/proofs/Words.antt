@@ -10,7 +10,7 @@ use Rattle.hr_base.specs.declared.limits.Limits.{Limits}
 use Rattle.hr_base.specs.LimitRanges.{IsLimits}
 use Rattle.command_words.specs.declared.read.Command.{Command}
 use Rattle.command_words.specs.declared.table.Verb.{Verb}
-use Rattle.command_words.specs.declared.table.Verb.TheVariants.{Play}
+use Rattle.command_words.specs.declared.table.Verb.TheVariants.{Play, Dump}
 use Rattle.command_words.specs.declared.table.Setting.{Setting}
 use Rattle.command_words.specs.declared.table.Setting.TheVariants.{Partitions, ValueLimit, TombLimit, Percent}
 use Rattle.command_words.specs.Table.{verb_name, settings_of, option_word, default_of, IsNumberFor}
@@ -25,7 +25,7 @@ Apart a b = a.setting ≢ b.setting
 abbrev pub IsInRange : Given → Type 0
 IsInRange given = IsNumberFor given.setting given.number
 
-abbrev IsTaken : Verb → Given → Type 0
+abbrev pub IsTaken : Verb → Given → Type 0
 IsTaken verb given = Contains (settings_of verb) given.setting
 
 abbrev Lacks : Setting → List ℕ → Type 0
@@ -222,6 +222,9 @@ one_givens (a ∷ as') (b ∷ bs) x y e =
 
 one_verb : (a b : Verb) → verb_name a ≡ verb_name b → a ≡ b
 one_verb Play Play e = refl
+one_verb Dump Dump e = refl
+one_verb Play Dump e = absurd (omega (arith, ap (λ (xs : List ℕ). get_or xs 0 0) e))
+one_verb Dump Play e = absurd (omega (arith, ap (λ (xs : List ℕ). get_or xs 0 0) e))
 
 -- words mean one command at most
 pub one_meaning : (words : List (List ℕ)) (a b : Command) → IsCommand words a → IsCommand words b → a ≡ b

@@ -3,7 +3,7 @@ use Rattle.std.specs.Prelude.{List, [], ◌∷◌, Some, true, codes, fold}
 use Rattle.clap.specs.Walk.{Rule}
 use Rattle.clap.specs.Simple.{App, new_app, new_rule, new_shape, with_rule, with_subcommand}
 use Rattle.command_words.specs.declared.table.Verb.{Verb}
-use Rattle.command_words.specs.declared.table.Verb.TheVariants.{Play}
+use Rattle.command_words.specs.declared.table.Verb.TheVariants.{Play, Dump}
 use Rattle.command_words.specs.declared.table.Setting.{Setting}
 use Rattle.command_words.specs.Table.{verb_name, settings_of, option_name}
 
@@ -35,7 +35,7 @@ bare_app = record {
 
 -- every command that is built
 abbrev pub verbs : List Verb
-verbs = Play ∷ []
+verbs = Play ∷ Dump ∷ []
 
 abbrev pub program_app : App
 program_app = fold with_verb bare_app verbs

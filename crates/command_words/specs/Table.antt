@@ -3,17 +3,19 @@ use Rattle.std.specs.Prelude.{◌≤◌, ℕ, List, [], ◌∷◌, ◌++◌, cod
 use Rattle.hr_base.specs.declared.limits.TheConstants.{MAX_PARTITIONS, MIN_CHUNK_LIMIT, MAX_CHUNK_LIMIT, MAX_PERCENT}
 use Rattle.command_words.specs.declared.table.TheConstants.{DEFAULT_PARTITIONS, DEFAULT_VALUE_LIMIT, DEFAULT_TOMB_LIMIT, DEFAULT_PERCENT}
 use Rattle.command_words.specs.declared.table.Verb.{Verb}
-use Rattle.command_words.specs.declared.table.Verb.TheVariants.{Play}
+use Rattle.command_words.specs.declared.table.Verb.TheVariants.{Play, Dump}
 use Rattle.command_words.specs.declared.table.Setting.{Setting}
 use Rattle.command_words.specs.declared.table.Setting.TheVariants.{Partitions, ValueLimit, TombLimit, Percent}
 
 -- the word that names a command
 abbrev pub verb_name : Verb → List ℕ
 verb_name Play = codes "play"
+verb_name Dump = codes "dump"
 
 -- the options that a command takes
 abbrev pub settings_of : Verb → List Setting
 settings_of Play = Partitions ∷ ValueLimit ∷ TombLimit ∷ Percent ∷ []
+settings_of Dump = Partitions ∷ []
 
 -- the name of an option
 abbrev pub option_name : Setting → List ℕ

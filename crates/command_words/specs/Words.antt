@@ -9,7 +9,7 @@ use Rattle.hr_base.specs.declared.limits.Limits.{Limits}
 use Rattle.command_words.specs.declared.read.Command.{Command}
 use Rattle.command_words.specs.declared.read.Command.TheVariants as command
 use Rattle.command_words.specs.declared.table.Verb.{Verb}
-use Rattle.command_words.specs.declared.table.Verb.TheVariants.{Play}
+use Rattle.command_words.specs.declared.table.Verb.TheVariants.{Play, Dump}
 use Rattle.command_words.specs.declared.table.Setting.{Setting}
 use Rattle.command_words.specs.declared.table.Setting.TheVariants.{Partitions, ValueLimit, TombLimit, Percent}
 use Rattle.command_words.specs.Table.{verb_name, settings_of, option_word, default_of, IsNumberFor}
@@ -55,6 +55,7 @@ limits_of givens = record {
 -- what a command is with its options
 abbrev pub command_of : Verb → List Given → Command
 command_of Play givens = command.Play (limits_of givens)
+command_of Dump givens = command.Dump (limits_of givens)
 
 -- the words are a folder, of any text, and this command with options
 pub record IsCommand (words : List (List ℕ)) (command : Command) : Type 0 where
@@ -82,6 +83,7 @@ with_number limits Percent n = record limits { percent = n }
 -- each limit of the command is in its range
 abbrev pub IsInLimits : Command → Type 0
 IsInLimits (command.Play limits) = IsLimits limits
+IsInLimits (command.Dump limits) = IsLimits limits
 
 -- what each word behind the folder is like: it has no `=`, and a hyphen begins names of options alone
 pub record IsLaterWord (word : List ℕ) : Type 0 where

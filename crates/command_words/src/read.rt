@@ -18,7 +18,7 @@ use std::alloc::Global;
 pub enum Command {
     /// A session over the lines of a script.
     Play(Limits),
-    /// The maps of a folder, as text.
+    /// The entries of all maps as text. Only the count of partitions can be set.
     Dump(Limits),
 }
 

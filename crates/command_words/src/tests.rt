@@ -7,106 +7,126 @@ use std::test::Fail;
 
 const NO_WORDS: [String; 0] = [];
 
-// The limits that words set, if they mean a command.
-fn read(alloc: Global, text: &str) -> Result<Option<Limits>, Memory> {
+// The command that words mean, if they mean one.
+fn read(alloc: Global, text: &str) -> Result<Option<Command>, Memory> {
     let mut words = Vec::new(alloc);
     for word in text.split(' ') {
         words.push(String::from_str(alloc, word)?)?;
     }
     match read_words(alloc, words.as_slice()) {
-        Ok(Command::Play(limits)) => Ok(Some(limits)),
+        Ok(command) => Ok(Some(command)),
         Err(WordsRefusal::Words) => Ok(None),
         Err(WordsRefusal::Memory) => Err(Memory),
     }
 }
 
-fn limits(partitions: u8, value: u64, tomb: u64, percent: u8) -> Limits {
-    Limits {
+// A session over a script with these limits.
+fn play(partitions: u8, value: u64, tomb: u64, percent: u8) -> Command {
+    Command::Play(Limits {
         partitions,
         value,
         tomb,
         percent,
-    }
+    })
+}
+
+// A dump of so many partitions.
+fn dump(partitions: u8) -> Command {
+    Command::Dump(Limits {
+        partitions,
+        value: 8_388_608,
+        tomb: 1_048_576,
+        percent: 20,
+    })
 }
 
 #[test]
 fn reads_words(rt: HostRuntime) -> Result<(), Fail> {
     let rows = [
-        ("no option", "DIR play", limits(8, 8_388_608, 1_048_576, 20)),
+        ("no option", "DIR play", play(8, 8_388_608, 1_048_576, 20)),
         (
             "all options",
             "DIR play --partitions 3 --value-limit 5000 --tomb-limit 6000 --percent 7",
-            limits(3, 5_000, 6_000, 7),
+            play(3, 5_000, 6_000, 7),
         ),
         (
             "the other way round",
             "DIR play --percent 7 --tomb-limit 6000 --value-limit 5000 --partitions 3",
-            limits(3, 5_000, 6_000, 7),
+            play(3, 5_000, 6_000, 7),
         ),
         (
             "least partitions",
             "DIR play --partitions 1",
-            limits(1, 8_388_608, 1_048_576, 20),
+            play(1, 8_388_608, 1_048_576, 20),
         ),
         (
             "most partitions",
             "DIR play --partitions 64",
-            limits(64, 8_388_608, 1_048_576, 20),
+            play(64, 8_388_608, 1_048_576, 20),
         ),
         (
             "least value limit",
             "DIR play --value-limit 4096",
-            limits(8, 4_096, 1_048_576, 20),
+            play(8, 4_096, 1_048_576, 20),
         ),
         (
             "most value limit",
             "DIR play --value-limit 67108864",
-            limits(8, 67_108_864, 1_048_576, 20),
+            play(8, 67_108_864, 1_048_576, 20),
         ),
         (
             "least tomb limit",
             "DIR play --tomb-limit 4096",
-            limits(8, 8_388_608, 4_096, 20),
+            play(8, 8_388_608, 4_096, 20),
         ),
         (
             "most tomb limit",
             "DIR play --tomb-limit 67108864",
-            limits(8, 8_388_608, 67_108_864, 20),
+            play(8, 8_388_608, 67_108_864, 20),
         ),
         (
             "least percent",
             "DIR play --percent 0",
-            limits(8, 8_388_608, 1_048_576, 0),
+            play(8, 8_388_608, 1_048_576, 0),
         ),
         (
             "most percent",
             "DIR play --percent 100",
-            limits(8, 8_388_608, 1_048_576, 100),
+            play(8, 8_388_608, 1_048_576, 100),
         ),
         (
             "folder like an option",
             "-x play",
-            limits(8, 8_388_608, 1_048_576, 20),
+            play(8, 8_388_608, 1_048_576, 20),
         ),
         (
             "folder of two hyphens",
             "-- play",
-            limits(8, 8_388_608, 1_048_576, 20),
+            play(8, 8_388_608, 1_048_576, 20),
         ),
         (
             "folder with an equals sign",
             "a=b play",
-            limits(8, 8_388_608, 1_048_576, 20),
+            play(8, 8_388_608, 1_048_576, 20),
         ),
-        ("empty folder", " play", limits(8, 8_388_608, 1_048_576, 20)),
+        ("empty folder", " play", play(8, 8_388_608, 1_048_576, 20)),
         (
             "folder with an accent",
             "é play",
-            limits(8, 8_388_608, 1_048_576, 20),
+            play(8, 8_388_608, 1_048_576, 20),
         ),
+        ("dump, no option", "DIR dump", dump(8)),
+        ("dump, partitions", "DIR dump --partitions 3", dump(3)),
+        ("dump, least partitions", "DIR dump --partitions 1", dump(1)),
+        (
+            "dump, most partitions",
+            "DIR dump --partitions 64",
+            dump(64),
+        ),
+        ("folder like a command", "play dump", dump(8)),
     ];
-    for (name, words, limits) in rows {
-        assert_eq!(rt; read(rt.alloc(), words)?, Some(limits), "{name}");
+    for (name, words, command) in rows {
+        assert_eq!(rt; read(rt.alloc(), words)?, Some(command), "{name}");
     }
     Ok(())
 }
@@ -148,6 +168,25 @@ fn refuses_words(rt: HostRuntime) -> Result<(), Fail> {
             "value past 64 bits",
             "DIR play --value-limit 18446744073709551616",
         ),
+        ("dump, value limit", "DIR dump --value-limit 4096"),
+        ("dump, tomb limit", "DIR dump --tomb-limit 4096"),
+        ("dump, percent", "DIR dump --percent 20"),
+        (
+            "dump, percent after partitions",
+            "DIR dump --partitions 2 --percent 20",
+        ),
+        (
+            "dump, repeated option",
+            "DIR dump --partitions 2 --partitions 2",
+        ),
+        ("dump, no partitions", "DIR dump --partitions 0"),
+        ("dump, too many partitions", "DIR dump --partitions 65"),
+        ("dump, attached value", "DIR dump --partitions=2"),
+        ("dump, missing value", "DIR dump --partitions"),
+        ("dump, stray word", "DIR dump x"),
+        ("two commands", "DIR play dump"),
+        ("two commands the other way round", "DIR dump play"),
+        ("dump in capitals", "DIR DUMP"),
     ];
     for (name, words) in rows {
         assert_eq!(rt; read(rt.alloc(), words)?, None, "{name}");
@@ -166,6 +205,7 @@ fn usage_names_all(rt: HostRuntime) -> Result<(), Fail> {
     let names = [
         "FOLDER",
         "play",
+        "dump",
         "--partitions",
         "--value-limit",
         "--tomb-limit",

@@ -1,4 +1,5 @@
-mod LineCounts
+mod Doings
+mod Meanings
 mod Outcomes
 mod Refusals
 mod ScriptLaws

@@ -1,8 +1,8 @@
 -- What a status says of the outcome that it tells.
 use Rattle.std.proofs.Common.{◌≡◌, ◌⊎◌, ℕ, ◌≤◌, List, [], Option, refl, arith, inl, inr, subst, ◌∙◌}
-use Rattle.hr_base.specs.declared.name.ChunkName.{ChunkName}
 use Rattle.hr_edges.specs.Edges.{Takes}
-use Rattle.store_drill.specs.declared.ended.Ended.TheVariants.{Whole, Sink, Disk, NotBuilt, Memory, Spent}
+use Rattle.restart_load.specs.declared.ended.Ended.TheVariants.{Whole, Sink, Disk, Memory, Load, Spent}
+use Rattle.restart_load.specs.declared.refusal.RestartRefusal.{RestartRefusal}
 use Rattle.hotrestart_cli.specs.declared.outcome.Outcome.{Outcome}
 use Rattle.hotrestart_cli.specs.declared.outcome.Outcome.TheVariants.{Words, TooLong, BadLine, Input, Ended}
 use Rattle.hotrestart_cli.specs.Outcome.{CanRefuse, CanRefuseFolder, CanRefuseWords, IsEarly, status_of, last_line, Tells, told, no_memory, not_taken, nothing_taken}
@@ -67,26 +67,31 @@ disk_of_status other e = cc
 pub disk_told : (outcome : Outcome) (status : ℕ) (mid now : Option (List ℕ)) → Tells outcome status mid now → status ≡ 5 → outcome ≡ Ended Disk
 disk_told outcome status mid now t e = disk_of_status outcome ((told_of outcome status mid now t (λ f. cc) (λ f. cc)).0 ∙ e)
 
-not_built_of_status : (outcome : Outcome) → status_of outcome ≡ 6 → (name : ChunkName) × (outcome ≡ Ended (NotBuilt name))
-not_built_of_status (Ended (NotBuilt name)) e = (name, refl)
-not_built_of_status (Ended other) e = cc
-not_built_of_status other e = cc
+load_of_status : (outcome : Outcome) → status_of outcome ≡ 6 → (refusal : RestartRefusal) × (outcome ≡ Ended (Load refusal))
+load_of_status (Ended (Load refusal)) e = (refusal, refl)
+load_of_status (Ended other) e = cc
+load_of_status other e = cc
 
--- status 6 tells a chunk file, and that its name was taken
-pub not_built_told : (outcome : Outcome) (status : ℕ) (mid now : Option (List ℕ)) → Tells outcome status mid now → status ≡ 6
-    → (name : ChunkName) × (outcome ≡ Ended (NotBuilt name)) × Takes mid now (last_line (Ended (NotBuilt name)))
-not_built_told outcome status mid now t e =
+-- status 6 tells what is wrong with a folder, and that this was taken
+pub load_told : (outcome : Outcome) (status : ℕ) (mid now : Option (List ℕ)) → Tells outcome status mid now → status ≡ 6
+    → (refusal : RestartRefusal) × (outcome ≡ Ended (Load refusal)) × Takes mid now (last_line (Ended (Load refusal)))
+load_told outcome status mid now t e =
     let own = told_of outcome status mid now t (λ f. cc) (λ f. cc) in
-    let held = not_built_of_status outcome (own.0 ∙ e) in
-    (held.0, held.1, same_line outcome (Ended (NotBuilt held.0)) mid now held.1 own.1)
+    let wrong = load_of_status outcome (own.0 ∙ e) in
+    (wrong.0, wrong.1, same_line outcome (Ended (Load wrong.0)) mid now wrong.1 own.1)
 
 spent_of_status : (outcome : Outcome) → status_of outcome ≡ 8 → (next : ℕ) × (outcome ≡ Ended (Spent next))
 spent_of_status (Ended (Spent next)) e = (next, refl)
 spent_of_status (Ended other) e = cc
 spent_of_status other e = cc
 
-pub spent_told : (outcome : Outcome) (status : ℕ) (mid now : Option (List ℕ)) → Tells outcome status mid now → status ≡ 8 → (next : ℕ) × (outcome ≡ Ended (Spent next))
-spent_told outcome status mid now t e = spent_of_status outcome ((told_of outcome status mid now t (λ f. cc) (λ f. cc)).0 ∙ e)
+-- status 8 tells a number that none can have, and that it was taken
+pub spent_told : (outcome : Outcome) (status : ℕ) (mid now : Option (List ℕ)) → Tells outcome status mid now → status ≡ 8
+    → (next : ℕ) × (outcome ≡ Ended (Spent next)) × Takes mid now (last_line (Ended (Spent next)))
+spent_told outcome status mid now t e =
+    let own = told_of outcome status mid now t (λ f. cc) (λ f. cc) in
+    let spent = spent_of_status outcome (own.0 ∙ e) in
+    (spent.0, spent.1, same_line outcome (Ended (Spent spent.0)) mid now spent.1 own.1)
 
 -- ---- several statuses
 
@@ -111,7 +116,7 @@ done_of_status (BadLine number) one two three four five six eight = absurd (two 
 done_of_status Input one two three four five six eight = absurd (three refl)
 done_of_status (Ended Sink) one two three four five six eight = absurd (four refl)
 done_of_status (Ended Disk) one two three four five six eight = absurd (five refl)
-done_of_status (Ended (NotBuilt name)) one two three four five six eight = absurd (six refl)
+done_of_status (Ended (Load refusal)) one two three four five six eight = absurd (six refl)
 done_of_status (Ended Memory) one two three four five six eight = inr refl
 done_of_status (Ended (Spent next)) one two three four five six eight = absurd (eight refl)
 
@@ -123,24 +128,25 @@ all_done outcome _ mid now (no_memory t) one two three four five six eight = inr
 all_done outcome _ mid now (not_taken t) one two three four five six eight = absurd (four refl)
 all_done outcome _ mid now (nothing_taken t) one two three four five six eight = absurd (four refl)
 
-held_of_status : (outcome : Outcome) → (status_of outcome ≡ 0 → ⊥) → (status_of outcome ≡ 1 → ⊥) → (status_of outcome ≡ 2 → ⊥) → (status_of outcome ≡ 8 → ⊥) → CanRefuseFolder (status_of outcome)
-held_of_status (Ended Whole) zero one two eight = absurd (zero refl)
-held_of_status Words zero one two eight = absurd (one refl)
-held_of_status TooLong zero one two eight = absurd (two refl)
-held_of_status (BadLine number) zero one two eight = absurd (two refl)
-held_of_status Input zero one two eight = inl refl
-held_of_status (Ended Sink) zero one two eight = inr (inl refl)
-held_of_status (Ended Disk) zero one two eight = inr (inr (inl refl))
-held_of_status (Ended (NotBuilt name)) zero one two eight = inr (inr (inr (inl refl)))
-held_of_status (Ended Memory) zero one two eight = inr (inr (inr (inr refl)))
-held_of_status (Ended (Spent next)) zero one two eight = absurd (eight refl)
+wrong_of_status : (outcome : Outcome) → (status_of outcome ≡ 0 → ⊥) → (status_of outcome ≡ 1 → ⊥) → (status_of outcome ≡ 2 → ⊥) → (status_of outcome ≡ 8 → ⊥) → CanRefuseFolder (status_of outcome)
+wrong_of_status (Ended Whole) zero one two eight = absurd (zero refl)
+wrong_of_status Words zero one two eight = absurd (one refl)
+wrong_of_status TooLong zero one two eight = absurd (two refl)
+wrong_of_status (BadLine number) zero one two eight = absurd (two refl)
+wrong_of_status Input zero one two eight = inl refl
+wrong_of_status (Ended Sink) zero one two eight = inr (inl refl)
+wrong_of_status (Ended Disk) zero one two eight = inr (inr (inl refl))
+wrong_of_status (Ended (Load refusal)) zero one two eight = inr (inr (inr (inl refl)))
+wrong_of_status (Ended Memory) zero one two eight = inr (inr (inr (inr refl)))
+wrong_of_status (Ended (Spent next)) zero one two eight = absurd (eight refl)
 
-pub held_told : (outcome : Outcome) (status : ℕ) (mid now : Option (List ℕ)) → Tells outcome status mid now
+-- a folder that does not restart
+pub wrong_told : (outcome : Outcome) (status : ℕ) (mid now : Option (List ℕ)) → Tells outcome status mid now
     → (status ≡ 0 → ⊥) → (status ≡ 1 → ⊥) → (status ≡ 2 → ⊥) → (status ≡ 8 → ⊥) → CanRefuseFolder status
-held_told outcome _ mid now (told t) zero one two eight = held_of_status outcome zero one two eight
-held_told outcome _ mid now (no_memory t) zero one two eight = inr (inr (inr (inr refl)))
-held_told outcome _ mid now (not_taken t) zero one two eight = inr (inl refl)
-held_told outcome _ mid now (nothing_taken t) zero one two eight = inr (inl refl)
+wrong_told outcome _ mid now (told t) zero one two eight = wrong_of_status outcome zero one two eight
+wrong_told outcome _ mid now (no_memory t) zero one two eight = inr (inr (inr (inr refl)))
+wrong_told outcome _ mid now (not_taken t) zero one two eight = inr (inl refl)
+wrong_told outcome _ mid now (nothing_taken t) zero one two eight = inr (inl refl)
 
 -- a script that has to be refused
 pub unfit_of : (outcome : Outcome) (status : ℕ) (mid now : Option (List ℕ)) → Tells outcome status mid now → CanRefuse (status_of outcome) → CanRefuse status

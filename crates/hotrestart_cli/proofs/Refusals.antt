@@ -1,113 +1,22 @@
--- What has to be refused, and what has to be done.
-use Rattle.std.proofs.Common.{◌≡◌, ◌⊎◌, ◌∙◌, ℕ, ◌≤◌, Bool, true, List, [], Option, Some, None, IsSome, refl, arith, inl, inr, subst, sym, ap}
-use Rattle.std.specs.FinMap.{empty}
-use Rattle.std.proofs.lemmas.List.{append-nil}
-use Rattle.hr_base.specs.Counts.{Rose}
+-- What has to be refused, and what was told of it.
+use Rattle.std.proofs.Common.{◌≡◌, ◌⊎◌, ◌∙◌, ℕ, Bool, true, List, Option, refl, inl, inr, subst}
 use Rattle.hr_base.specs.declared.limits.Limits.{Limits}
-use Rattle.hr_base.specs.declared.name.ChunkName.{ChunkName}
-use Rattle.hr_edges.specs.Edges.{IsRead, Takes}
-use Rattle.hr_edges.proofs.Writings.{Takes-append}
-use Rattle.dir_files.specs.Files.{FileState}
-use Rattle.dir_files.specs.Ports.{Port}
-use Rattle.script_text.specs.declared.line.Line.{Line}
-use Rattle.script_text.specs.Replies.{replies}
+use Rattle.hr_edges.specs.Edges.{Takes}
+use Rattle.dir_files.specs.Images.{Image, read_of}
 use Rattle.command_words.specs.Words.{IsCommand}
 use Rattle.command_words.specs.declared.read.Command.{Command}
-use Rattle.command_words.specs.declared.read.Command.TheVariants.{Play}
-use Rattle.command_words.proofs.Words.{one_meaning}
-use Rattle.store_drill.specs.Sessions.{IsFirstHeld, Outside, Ran}
-use Rattle.store_drill.specs.declared.ended.Ended.TheVariants.{Whole, NotBuilt, Memory}
+use Rattle.command_words.specs.declared.read.Command.TheVariants.{Play, Dump}
+use Rattle.restart_load.specs.declared.ended.Ended.TheVariants.{Whole, Memory, Load}
+use Rattle.restart_load.specs.declared.refusal.RestartRefusal.{RestartRefusal}
+use Rattle.store_drill.specs.Sessions.{NotBegun, Outside}
 use Rattle.hotrestart_cli.specs.declared.outcome.Outcome.{Outcome}
 use Rattle.hotrestart_cli.specs.declared.outcome.Outcome.TheVariants.{Words, TooLong, BadLine, Input, Ended}
 use Rattle.hotrestart_cli.specs.Outcome.{CanRefuse, last_line, status_of, Tells}
-use Rattle.hotrestart_cli.specs.Scripts.{IsFit, IsRefusedScript, IsUnfit}
-use Rattle.hotrestart_cli.specs.Served.{Because, CameTo, IsRefusedWords, Means, RanTo, WasDone, WasNotBuilt, WasRefused, World}
-use Rattle.hotrestart_cli.proofs.Outcomes.{not_built_told, told_of, unfit_of, whole_told}
+use Rattle.hotrestart_cli.specs.Scripts.{IsRefusedScript, IsUnfit}
+use Rattle.hotrestart_cli.specs.Served.{Because, CameTo, IsRefusedWords, Means, RanTo, ReadsNothingUnfit, WasRefused, WasUnloadable, World, partitions_of}
+use Rattle.hotrestart_cli.proofs.Meanings.{means_also, means_this, obeyed}
+use Rattle.hotrestart_cli.proofs.Outcomes.{load_told, told_of, unfit_of}
 use Rattle.hotrestart_cli.proofs.ScriptLaws.{fit_not_bad, fit_not_long, unfit_script}
-
--- ---- counts
-
--- a count that rose stays risen, and rose from what it was before
-pub rose_later : (a b c : ℕ) → Rose a b → b ≤ c → Rose a c
-rose_later a b c rose more = omega (arith, rose, more)
-
-pub rose_earlier : (a b c : ℕ) → a ≤ b → Rose b c → Rose a c
-rose_earlier a b c more rose = omega (arith, rose, more)
-
--- ---- words
-
--- no command is read for two reasons
-pub refused_words : (words : List (List ℕ)) (outcome : Outcome) → IsRefusedWords words outcome → (outcome ≡ Words) ⊎ (outcome ≡ Ended Memory)
-refused_words words Words h = inl refl
-refused_words words (Ended Memory) h = inr refl
-refused_words words (Ended other) h = absurd h
-refused_words words other h = absurd h
-
--- what holds of each command that comes to something holds of the one that the words mean
-pub means_also : (words : List (List ℕ)) (Holds Follows : Command → Type 0) → ((command : Command) → Holds command → Follows command) → Means words Holds → Means words Follows
-means_also words Holds Follows step m = record { command = m.command; meaning = m.meaning; holds = step m.command m.holds }
-
--- and it holds of that one alone
-pub means_this : (words : List (List ℕ)) (Holds : Command → Type 0) (command : Command) → IsCommand words command → Means words Holds → Holds command
-means_this words Holds command meaning m = subst Holds (one_meaning words m.command command m.meaning meaning) m.holds
-
--- a status other than 1 and 7 comes of a command
-pub obeyed : (tells : Bool) (words : List (List ℕ)) (before mid : World) (outcome : Outcome) → Because tells words before mid outcome
-    → (status_of outcome ≡ 1 → ⊥) → (status_of outcome ≡ 7 → ⊥) → Means words (λ command. CameTo tells command before mid outcome)
-obeyed tells words before mid outcome because one seven =
-    elim because [
-      | inl none ↦ elim (refused_words words outcome none.0) [ inl e ↦ absurd (one (ap status_of e)) | inr e ↦ absurd (seven (ap status_of e)) ]
-      | inr m ↦ m
-    ]
-
--- ---- status 0
-
-whole_text : (tells : Bool) (partitions : ℕ) (lines : List Line) (old new : Outside) → Ran tells partitions lines old new Whole → Takes old.taken new.taken (replies lines (λ _. empty))
-whole_text tells partitions lines old new ran = elim ran [ inl none ↦ absurd (none.unfinished refl) | inr session ↦ session.text ]
-
-done_by : (tells : Bool) (command : Command) (before mid : World) (now : Option (List ℕ)) → CameTo tells command before mid (Ended Whole) → Takes mid.outside.taken now []
-    → WasDone command before.left before.outside.taken now
-done_by tells (Play limits) before mid now came taken =
-    elim came [
-      | inl refused ↦ absurd refused.why
-      | inr ran ↦ record {
-        lines = ran.lines;
-        script = ran.script;
-        text =
-            subst (λ (t : List ℕ). Takes before.outside.taken now t) (append-nil (replies ran.lines (λ _. empty)))
-            (Takes-append before.outside.taken mid.outside.taken now (replies ran.lines (λ _. empty)) [] (whole_text tells limits.partitions ran.lines before.outside mid.outside ran.ran) taken);
-      }
-    ]
-
--- the whole script was done
-pub done_told : (tells : Bool) (words : List (List ℕ)) (before mid : World) (now : Option (List ℕ)) (outcome : Outcome) (status : ℕ)
-    → Because tells words before mid outcome → Tells outcome status mid.outside.taken now → status ≡ 0 → Means words (λ command. WasDone command before.left before.outside.taken now)
-done_told tells words before mid now outcome status because heard e =
-    let whole = whole_told outcome status mid.outside.taken now heard e in
-    let came : Because tells words before mid (Ended Whole) = subst (λ (x : Outcome). Because tells words before mid x) whole.0 because in
-    means_also words (λ command. CameTo tells command before mid (Ended Whole)) (λ command. WasDone command before.left before.outside.taken now)
-    (λ command did. done_by tells command before mid now did whole.1)
-    (obeyed tells words before mid (Ended Whole) came (λ f. cc) (λ f. cc))
-
-nothing_held : (file : Option FileState) → file ≡ None → IsSome file → ⊥
-nothing_held None e h = cc
-nothing_held (Some f) e h = cc
-
--- no session ends whole over a folder with a chunk file
-not_whole_by : (tells : Bool) (command : Command) (before mid : World) (name : ChunkName) → CameTo tells command before mid (Ended Whole) → tells ≡ true → IsSome (before.outside.port.held name) → ⊥
-not_whole_by tells (Play limits) before mid name came y held =
-    elim came [
-      | inl refused ↦ refused.why
-      | inr ran ↦ elim ran.ran [ inl none ↦ none.unfinished refl | inr session ↦ nothing_held (before.outside.port.held name) (session.fresh y name) held ]
-    ]
-
-pub not_whole : (tells : Bool) (words : List (List ℕ)) (before mid : World) (now : Option (List ℕ)) (outcome : Outcome) (status : ℕ) (name : ChunkName)
-    → Because tells words before mid outcome → Tells outcome status mid.outside.taken now → status ≡ 0 → tells ≡ true → IsSome (before.outside.port.held name) → ⊥
-not_whole tells words before mid now outcome status name because heard e y held =
-    let whole = whole_told outcome status mid.outside.taken now heard e in
-    let came : Because tells words before mid (Ended Whole) = subst (λ (x : Outcome). Because tells words before mid x) whole.0 because in
-    let m = obeyed tells words before mid (Ended Whole) came (λ f. cc) (λ f. cc) in
-    not_whole_by tells m.command before mid name m.holds y held
 
 -- ---- status 2
 
@@ -126,6 +35,9 @@ refused_by tells (Play limits) before mid now (BadLine number) e came taken =
 refused_by tells (Play limits) before mid now (Ended Whole) e came taken = cc
 refused_by tells (Play limits) before mid now (Ended other) e came taken = cc
 refused_by tells (Play limits) before mid now other e came taken = cc
+refused_by tells (Dump limits) before mid now (Ended Whole) e came taken = cc
+refused_by tells (Dump limits) before mid now (Ended other) e came taken = cc
+refused_by tells (Dump limits) before mid now other e came taken = absurd came
 
 -- the script was refused, and told so
 pub refused_told : (tells : Bool) (words : List (List ℕ)) (before mid : World) (now : Option (List ℕ)) (outcome : Outcome) (status : ℕ)
@@ -137,10 +49,11 @@ refused_told tells words before mid now outcome status because heard e =
     (λ command did. refused_by tells command before mid now outcome two did own.1)
     (obeyed tells words before mid outcome because (λ f. cc) (λ f. cc))
 
--- a script that is one is not refused
-pub fit_refused : (limits : Limits) (left rest before now : Option (List ℕ)) → IsFit limits.partitions left → WasRefused (Play limits) left rest before now → ⊥
-fit_refused limits left rest before now fit refused =
+-- a command that reads no such script is not refused for one
+pub fit_refused : (command : Command) (left rest before now : Option (List ℕ)) → ReadsNothingUnfit command left → WasRefused command left rest before now → ⊥
+fit_refused (Play limits) left rest before now fit refused =
     elim refused [ inl long ↦ fit_not_long limits.partitions left rest fit long.0 | inr bad ↦ fit_not_bad limits.partitions left bad.0 fit bad.1 ]
+fit_refused (Dump limits) left rest before now fit refused = refused
 
 unfit_why : (partitions : ℕ) (left rest : Option (List ℕ)) (outcome : Outcome) → IsRefusedScript partitions left rest outcome → CanRefuse (status_of outcome)
 unfit_why partitions left rest TooLong why = inl refl
@@ -179,62 +92,41 @@ unfit_told tells words before mid now outcome status limits because heard meanin
 
 -- ---- status 6
 
-silent_by : (tells : Bool) (command : Command) (before mid : World) (name : ChunkName) → CameTo tells command before mid (Ended (NotBuilt name)) → mid.outside.taken ≡ before.outside.taken
-silent_by tells (Play limits) before mid name came =
-    elim came [ inl refused ↦ absurd refused.why | inr ran ↦ elim ran.ran [ inl none ↦ none.silent | inr session ↦ absurd session.text ] ]
+wrong_content : (tells : Bool) (partitions : ℕ) (old new : Outside) (now : Option (List ℕ)) (refusal : RestartRefusal)
+    → tells ≡ true → NotBegun tells partitions old new (Load refusal) → Takes new.taken now (last_line (Ended (Load refusal))) → WasUnloadable partitions (read_of old.port) old.taken now
+wrong_content tells partitions old new now refusal y none taken = record {
+  refusal = refusal;
+  content = none.refusal.0;
+  first = none.content y refusal refl;
+  text = subst (λ (t : Option (List ℕ)). Takes t now (last_line (Ended (Load refusal)))) none.silent taken;
+}
 
--- a chunk file that the folder held was told
-pub named_told : (tells : Bool) (words : List (List ℕ)) (before mid : World) (now : Option (List ℕ)) (outcome : Outcome) (status : ℕ)
-    → Because tells words before mid outcome → Tells outcome status mid.outside.taken now
-    → ((name : ChunkName) → outcome ≡ Ended (NotBuilt name) → IsFirstHeld before.outside.port name) → status ≡ 6 → WasNotBuilt before.outside.port before.outside.taken now
-named_told tells words before mid now outcome status because heard first e =
-    let held = not_built_told outcome status mid.outside.taken now heard e in
-    let came : Because tells words before mid (Ended (NotBuilt held.0)) = subst (λ (x : Outcome). Because tells words before mid x) held.1 because in
-    let m = obeyed tells words before mid (Ended (NotBuilt held.0)) came (λ f. cc) (λ f. cc) in
-    record {
-      name = held.0;
-      first = first held.0 held.1;
-      text = subst (λ (t : Option (List ℕ)). Takes t now (last_line (Ended (NotBuilt held.0)))) (silent_by tells m.command before mid held.0 m.holds) held.2;
-    }
-
--- and a folder without files is not refused for one
-pub not_refused : (port : Port) (before now : Option (List ℕ)) → ((name : ChunkName) → port.held name ≡ None) → WasNotBuilt port before now → ⊥
-not_refused port before now none told = nothing_held (port.held told.name) (none told.name) told.first.held
-
--- ---- how far the script was read
-
-abbrev IsAfterScript : ℕ → Type 0
-IsAfterScript status = (status ≡ 0) ⊎ (status ≡ 5) ⊎ (status ≡ 6)
-
-not_after : (status n : ℕ) → IsAfterScript status → status ≡ n → (n ≡ 0 → ⊥) → (n ≡ 5 → ⊥) → (n ≡ 6 → ⊥) → ⊥
-not_after status n after e zero five six =
-    elim after [ inl a ↦ zero (sym e ∙ a) | inr r ↦ elim r [ inl b ↦ five (sym e ∙ b) | inr c ↦ six (sym e ∙ c) ] ]
-
-read_refused : (partitions : ℕ) (left rest : Option (List ℕ)) (outcome : Outcome) → IsRefusedScript partitions left rest outcome → IsAfterScript (status_of outcome) → IsRead left rest
-read_refused partitions left rest TooLong why after = absurd (not_after 2 2 after refl (λ f. cc) (λ f. cc) (λ f. cc))
-read_refused partitions left rest (BadLine number) why after = why.1
-read_refused partitions left rest Input why after = absurd (not_after 3 3 after refl (λ f. cc) (λ f. cc) (λ f. cc))
-read_refused partitions left rest (Ended Memory) why after = absurd (not_after 7 7 after refl (λ f. cc) (λ f. cc) (λ f. cc))
-read_refused partitions left rest (Ended other) why after = absurd why
-read_refused partitions left rest other why after = absurd why
-
-read_ran : (tells : Bool) (partitions : ℕ) (before mid : World) (outcome : Outcome) → RanTo tells partitions before mid outcome → IsRead before.left mid.left
-read_ran tells partitions before mid (Ended ended) ran = ran.read
-read_ran tells partitions before mid other ran = absurd ran
-
-read_by : (tells : Bool) (command : Command) (before mid : World) (outcome : Outcome) → CameTo tells command before mid outcome → IsAfterScript (status_of outcome) → IsRead before.left mid.left
-read_by tells (Play limits) before mid outcome came after =
+wrong_by : (tells : Bool) (command : Command) (before mid : World) (now : Option (List ℕ)) (refusal : RestartRefusal)
+    → tells ≡ true → CameTo tells command before mid (Ended (Load refusal)) → Takes mid.outside.taken now (last_line (Ended (Load refusal)))
+    → WasUnloadable (partitions_of command) (read_of before.outside.port) before.outside.taken now
+wrong_by tells (Play limits) before mid now refusal y came taken =
     elim came [
-      | inl refused ↦ read_refused limits.partitions before.left mid.left outcome refused.why after
-      | inr ran ↦ read_ran tells limits.partitions before mid outcome ran
+      | inl refused ↦ absurd refused.why
+      | inr ran ↦
+          elim ran.ran [
+            | inl none ↦ wrong_content tells limits.partitions before.outside mid.outside now refusal y none taken
+            | inr session ↦ absurd session.text
+          ]
+    ]
+wrong_by tells (Dump limits) before mid now refusal y came taken =
+    elim came.0 [
+      | inl none ↦ wrong_content tells limits.partitions before.outside mid.outside now refusal y none taken
+      | inr dumped ↦ absurd dumped.text
     ]
 
--- a script that was played, or refused by the folder, was read to its end
-pub read_told : (tells : Bool) (words : List (List ℕ)) (before mid : World) (now : Option (List ℕ)) (outcome : Outcome) (status : ℕ)
-    → Because tells words before mid outcome → Tells outcome status mid.outside.taken now → IsAfterScript status → IsRead before.left mid.left
-read_told tells words before mid now outcome status because heard after =
-    let own = told_of outcome status mid.outside.taken now heard (λ f. not_after status 4 after f (λ z. cc) (λ z. cc) (λ z. cc)) (λ f. not_after status 7 after f (λ z. cc) (λ z. cc) (λ z. cc)) in
-    let own_after : IsAfterScript (status_of outcome) = subst IsAfterScript (sym own.0) after in
-    let m = obeyed tells words before mid outcome because
-    (λ f. not_after (status_of outcome) 1 own_after f (λ z. cc) (λ z. cc) (λ z. cc)) (λ f. not_after (status_of outcome) 7 own_after f (λ z. cc) (λ z. cc) (λ z. cc)) in
-    read_by tells m.command before mid outcome m.holds own_after
+-- the first thing that is wrong with the folder was told
+pub unloadable_told : (tells : Bool) (words : List (List ℕ)) (before mid : World) (now : Option (List ℕ)) (outcome : Outcome) (status : ℕ)
+    → Because tells words before mid outcome → Tells outcome status mid.outside.taken now → tells ≡ true → status ≡ 6
+    → Means words (λ command. WasUnloadable (partitions_of command) (read_of before.outside.port) before.outside.taken now)
+unloadable_told tells words before mid now outcome status because heard y e =
+    let wrong = load_told outcome status mid.outside.taken now heard e in
+    let came : Because tells words before mid (Ended (Load wrong.0)) = subst (λ (x : Outcome). Because tells words before mid x) wrong.1 because in
+    means_also words (λ command. CameTo tells command before mid (Ended (Load wrong.0)))
+    (λ command. WasUnloadable (partitions_of command) (read_of before.outside.port) before.outside.taken now)
+    (λ command did. wrong_by tells command before mid now wrong.0 y did wrong.2)
+    (obeyed tells words before mid (Ended (Load wrong.0)) came (λ f. cc) (λ f. cc))

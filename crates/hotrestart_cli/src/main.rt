@@ -63,12 +63,16 @@ fn folder_named(rt: &HostRuntime, words: &[String]) -> io::Result<RealFolder<Hos
     Ok(RealFolder::at(rt.clone()?, path))
 }
 
+/// The words, and the folder that they name.
+fn words_and_folder(rt: &HostRuntime) -> io::Result<(Vec<String>, RealFolder<HostRuntime>)> {
+    let words = program_words(rt)?;
+    let folder = folder_named(rt, words.as_slice())?;
+    Ok((words, folder))
+}
+
 /// Does what the words say, with a buffer for the output. The first error of the disk is printed on standard error.
 fn serve_words(rt: &HostRuntime, out: &mut StdSink<BufWriter<io::Stdout>>) -> u8 {
-    let (words, mut folder) = match program_words(rt).and_then(|words| {
-        let folder = folder_named(rt, words.as_slice())?;
-        Ok((words, folder))
-    }) {
+    let (words, mut folder) = match words_and_folder(rt) {
         Ok(found) => found,
         Err(error) => return tell(rt.alloc(), outcome_without_words(error.kind()), out),
     };

@@ -1,6 +1,6 @@
 //! The script of a session.
 
-ghost use Rattle.std.specs.Prelude.{◌≡◌, ◌≤◌, ◌^◌, length, All, IfOk, IfErr, OnOk};
+ghost use Rattle.std.specs.Prelude.{◌≡◌, ◌≤◌, All, IfOk, IfErr, OnOk};
 ghost use Rattle.hr_base.specs.Counts.{Rose};
 ghost use Rattle.hr_base.specs.LimitRanges.{IsPartitionCount};
 ghost use Rattle.hr_edges.specs.Edges.{IsRead};
@@ -24,7 +24,6 @@ pub fn read_lines<S: Source>(
     requires { IsPartitionCount partitions }
     ensures found { IfOk result (λ script. IsScriptOf partitions (S.left input.old) script) }
     ensures valid { IfOk result (λ script. All (IsLine Mode.Play partitions) script) }
-    ensures few { IfOk result (λ script. length script ≤ 2 ^ 26) }
     ensures ended { OnOk result (IsRead (S.left input.old) (S.left input.new)) }
     ensures refused { IfErr result (IsRefusedScript partitions (S.left input.old) (S.left input.new)) }
     ensures fault { IfErr result (λ e. e ≡ Outcome.Input → Rose (S.count input.old) (S.count input.new)) }

@@ -1,7 +1,7 @@
 //! A writer of the standard library as a sink.
 
 ghost use Rattle.std.specs.Prelude.{◌≡◌, ◌≤◌, None, IfOk, is_err, length};
-ghost use Rattle.std.specs.Io.KnownBytes.{WriteAppends};
+ghost use Rattle.std.specs.Io.KnownBytes.{Keeps, WriteAppends};
 ghost use Rattle.hr_edges.specs.Edges.{CountsFailure, is_failed_write};
 
 use crate::failure::Failed;
@@ -26,6 +26,7 @@ impl<W: Write> StdSink<W> {
 
     /// Hands on what the writer holds back. Where that fails, some of it may be lost.
     pub fn flush(&mut self) -> Result<(), Failed>
+        ensures passed { Keeps (W.contents self.old.inner) (W.contents self.new.inner) }
         ensures counted { CountsFailure (is_err result)
             (⟦<StdSink<W> as Sink>⟧.count self.old) (⟦<StdSink<W> as Sink>⟧.count self.new) }
     {

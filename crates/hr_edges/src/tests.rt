@@ -1,6 +1,8 @@
 //! The implementations at their good and their failing calls.
 
 use super::*;
+use std::cell::Cell;
+use std::io::{self, BufWriter, Write};
 use std::process::Abort;
 use std::test::Fail;
 
@@ -141,5 +143,46 @@ fn sinks_take_by_the_table(rt: HostRuntime) -> Result<(), Fail> {
         &[(b"abc", Ok(3)), (b"", Ok(0))],
         0,
     );
+    Ok(())
+}
+
+/// A writer with room for so many bytes, which shows how many more it would take.
+#[derive(Drop)]
+struct RoomyWriter<'a> {
+    room: usize,
+    left: &'a Cell<usize>,
+}
+
+impl Write for RoomyWriter<'_> {
+    fn write(&mut self, piece: &[u8]) -> io::Result<usize> {
+        let length = piece.len().min(self.room);
+        self.room -= length;
+        self.left.set(self.room);
+        Ok(length)
+    }
+
+    fn flush(&mut self) -> io::Result<()> {
+        Ok(())
+    }
+}
+
+#[test]
+fn flushes_hand_on_what_was_held_back(rt: HostRuntime) -> Result<(), Fail> {
+    let rows = [
+        ("room for all", 5, Ok(()), 2, 0),
+        ("room for just all", 3, Ok(()), 0, 0),
+        ("room for a part", 2, Err(Failed), 0, 1),
+        ("no room", 0, Err(Failed), 0, 1),
+    ];
+    for (name, room, answer, rest, faults) in rows {
+        let left = Cell::new(room);
+        let writer = RoomyWriter { room, left: &left };
+        let mut sink = StdSink::new(BufWriter::new(rt.alloc(), writer)?);
+        check_writes(&rt, name, &mut sink, &[(b"xyz", Ok(3))], 0);
+        assert_eq!(rt; left.get(), room, "{name}: held back");
+        assert_eq!(rt; sink.flush(), answer, "{name}");
+        assert_eq!(rt; left.get(), rest, "{name}: handed on");
+        assert_eq!(rt; sink.faults(), faults, "{name}: faults");
+    }
     Ok(())
 }

@@ -1,25 +1,24 @@
 -- What files in hand tell of a folder, and what it keeps once they are given back.
-use Rattle.std.proofs.Common.{◌≡◌, ◌≢◌, ◌⊎◌, ℕ, zero, suc, ◌+◌, ◌<◌, ◌≤◌, Bool, true, false, List, [], ◌∷◌, ◌++◌, length, map, take, drop, Result, Ok, Err, IfOk, IfErr, All, AllPairs, Contains, Option, Some, None, IfSome, IsSome, IsSomeAnd, is_some, get_or, slice_get, refl, ap, sym, ◌∙◌, subst, inl, inr, arith}
+use Rattle.std.proofs.Common.{◌≡◌, ◌⊎◌, ℕ, zero, suc, ◌<◌, Bool, true, false, List, [], ◌∷◌, ◌++◌, length, map, take, drop, Result, Ok, Err, IfOk, IfErr, All, Contains, Option, Some, None, IfSome, IsSome, get_or, refl, ap, sym, ◌∙◌, subst, inl, inr, arith}
 use Rattle.std.specs.Option.{option_map}
-use Rattle.std.proofs.lemmas.Bool.{cases_Bool, false≢true}
-use Rattle.std.proofs.lemmas.List.{append-nil, drop_all, get_or-map, get_or_default, length-map, take_all}
+use Rattle.std.proofs.lemmas.Bool.{false≢true}
+use Rattle.std.proofs.lemmas.List.{append-nil, drop_all, get_or-map, length-map, take_all}
 use Rattle.std.proofs.lemmas.List.Elements.{All-contains, All-from_get_or, Contains-get_or}
 use Rattle.std.proofs.lemmas.Option.{get_or_from_slice_get, slice_get-get_or, slice_get_within}
-use Rattle.hr_base.specs.declared.limits.TheConstants.{MAX_FILE_LEN}
 use Rattle.hr_base.specs.declared.name.ChunkName.{ChunkName}
 use Rattle.hr_base.specs.declared.name.Kind.TheVariants.{T}
 use Rattle.hr_base.specs.Names.{IsChunkName, IsUpTo}
 use Rattle.hr_base.specs.NameTests.{is_name}
 use Rattle.hr_base.proofs.NameOrder.{up_to-itself}
-use Rattle.hr_base.proofs.NameTestLaws.{is_name-other, is_name-same, is_name-true}
+use Rattle.hr_base.proofs.NameTestLaws.{is_name-other, is_name-same}
 use Rattle.dir_files.specs.Files.{FileState, IsDurable, KeepsMore, Rises}
-use Rattle.dir_files.specs.Images.{Image, KeepsFront, KeepsImages, MayLeave, read_of}
+use Rattle.dir_files.specs.Images.{KeepsFront, KeepsImages, MayLeave, read_of}
 use Rattle.dir_files.specs.Ports.{IsListing, Port, SamePort, either_file}
 use Rattle.dir_files.specs.PortStates.{IsAtRest, IsGivenBack}
 use Rattle.restart_load.specs.Contents.{AreFilesOf, FileBytes, InNameOrder}
 use Rattle.restart_load.specs.Reading.{IsFirstLarge, IsFolderRefusal, IsLarge, StandsLargeAt}
 use Rattle.restart_load.specs.Refusals.{IsFirstName, IsTooLarge}
-use Rattle.restart_load.specs.Taking.{AllDurableWith, AreApart, HasTaken, TakenFile, bytes_of, files_with, in_hand}
+use Rattle.restart_load.specs.Taking.{AllDurableWith, AreApart, HasTaken, TakenFile, bytes_of, in_hand}
 use Rattle.restart_load.specs.declared.refusal.RestartRefusal.{RestartRefusal}
 use Rattle.restart_load.specs.declared.refusal.RestartRefusal.TheVariants.{Memory, DiskFault, Partition, TooLarge, Damaged, Clash}
 

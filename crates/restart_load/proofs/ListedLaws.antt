@@ -1,17 +1,17 @@
 -- Files in hand, as a listing tells them.
-use Rattle.std.proofs.Common.{◌≡◌, ℕ, zero, suc, ◌+◌, ◌<◌, ◌≤◌, Bool, true, false, List, [], ◌∷◌, ◌++◌, length, map, take, All, AllPairs, Contains, Option, Some, None, IfSome, IsSome, is_some, get_or, refl, ap, sym, ◌∙◌, subst, inl, inr, arith, if◌then◌else◌}
-use Rattle.std.proofs.lemmas.Bool.{cases_Bool, false≢true}
+use Rattle.std.proofs.Common.{◌≡◌, ℕ, zero, suc, ◌+◌, ◌<◌, true, false, List, [], ◌∷◌, ◌++◌, length, map, take, All, Contains, Option, Some, None, IfSome, IsSome, is_some, get_or, refl, ap, sym, ◌∙◌, subst, inl, inr, arith}
+use Rattle.std.proofs.lemmas.Bool.{cases_Bool}
 use Rattle.std.proofs.lemmas.List.{get_or-take, get_or_default, length-map, length-take, take_more}
 use Rattle.std.proofs.Math.Seq.{take-length}
 use Rattle.std.proofs.lemmas.List.Elements.{All-head, All-tail, Contains-get_or, Contains-append_right}
 use Rattle.hr_base.specs.declared.name.ChunkName.{ChunkName}
 use Rattle.hr_base.specs.NameTests.{is_name}
 use Rattle.hr_base.proofs.NameTestLaws.{is_name-same, is_name-true}
-use Rattle.dir_files.specs.Files.{FileState, Files, IsDurable, KeepsMore, Rises}
+use Rattle.dir_files.specs.Files.{FileState, IsDurable, Rises}
 use Rattle.dir_files.specs.Ports.{IsListing, Port, either_file}
 use Rattle.dir_files.specs.PortStates.{IsGivenBack}
 use Rattle.writer_chunks.proofs.FileLaws.{rises_same}
-use Rattle.restart_load.specs.Taking.{AllDurableWith, AllNamed, AreApart, HasTaken, TakenFile, files_with, in_hand}
+use Rattle.restart_load.specs.Taking.{AllDurableWith, AllNamed, HasTaken, TakenFile, files_with, in_hand}
 
 some_of : (o : Option FileState) → is_some o ≡ true → (file : FileState) × (o ≡ Some file)
 some_of (Some f) is = (f, refl)

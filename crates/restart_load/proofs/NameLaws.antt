@@ -1,5 +1,5 @@
 -- Names in the order of their texts, and listings.
-use Rattle.std.proofs.Common.{◌≡◌, ◌≢◌, ◌⊎◌, ◌<◌, ◌≤◌, ℕ, Bool, false, true, List, [], All, AllPairs, Contains, IsSome, refl, sym, subst, ap, ◌∙◌, get_or, length, take, inl, inr, arith}
+use Rattle.std.proofs.Common.{◌≡◌, ◌⊎◌, ◌<◌, ◌≤◌, ℕ, true, List, All, IsSome, sym, subst, ap, ◌∙◌, get_or, length, take, inl, inr, arith}
 use Rattle.std.specs.List.{IsDistinct}
 use Rattle.std.specs.List.Sorted.{IsPermutation, IsSorted}
 use Rattle.std.proofs.lemmas.Bool.{cases_Bool}
@@ -35,7 +35,8 @@ listing_moved port names sorted moves listing =
     record {
       listed = λ name. (
         (λ has. (listing.listed name).0 (Contains-permutation sorted names name (IsPermutation-sym names sorted moves) has)),
-        (λ there. Contains-permutation names sorted name moves ((listing.listed name).1 there)));
+        (λ there. Contains-permutation names sorted name moves ((listing.listed name).1 there)),
+      );
       once = λ i j d less below. is_name-false _ _ (apart_from_distinct is_name sorted i j d moved less below);
       valid = All-permutation IsChunkName names sorted moves listing.valid;
     }

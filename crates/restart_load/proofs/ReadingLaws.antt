@@ -1,6 +1,6 @@
 -- Reading files in hand one after another.
-use Rattle.std.proofs.Common.{◌≡◌, ◌⊎◌, inl, inr, ℕ, ◌+◌, ◌<◌, ◌≤◌, Bool, true, List, [], ◌∷◌, ◌++◌, length, map, take, set, Contains, Some, get_or, slice_get, refl, ap, sym, ◌∙◌, subst, arith}
-use Rattle.std.proofs.lemmas.List.{get_or-map, get_or_default, length-map, map-append, map-set, map_more, set-get_or}
+use Rattle.std.proofs.Common.{◌≡◌, ◌⊎◌, inl, inr, ℕ, ◌+◌, ◌<◌, ◌≤◌, Bool, true, List, [], ◌∷◌, ◌++◌, length, map, take, set, Some, get_or, slice_get, ap, sym, ◌∙◌, subst, arith}
+use Rattle.std.proofs.lemmas.List.{get_or-map, length-map, map-append, map-set, map_more, set-get_or}
 use Rattle.std.proofs.lemmas.Option.{get_or_from_slice_get, slice_get-get_or}
 use Rattle.hr_base.specs.declared.limits.TheConstants.{MAX_FILE_LEN}
 use Rattle.hr_base.specs.declared.name.ChunkName.{ChunkName}
@@ -74,13 +74,14 @@ first_large tells files now i d (Damaged name at) below names same none is = is
 first_large tells files now i d (Clash p seq) below names same none is = is
 first_large tells files now i d (TooLarge name) below names same none is =
     let within : i < length now = omega (arith, below, sym (length-map now (λ (t : TakenFile). t.name)) ∙ ap length names ∙ length-map files (λ (t : TakenFile). t.name)) in
-    let here : name ≡ (get_or files i d).name = is.0 ∙ one_name files now i d below within names in
-    ((i, omega (arith, below, length-map files (λ (t : TakenFile). t.name)), get_or-map (λ (t : TakenFile). t.name) files i d name below ∙ sym here),
-    λ told. record {
-      place = i;
-      taken = get_or files i d;
-      there = slice_get-get_or files i d below;
-      named = sym here;
-      large = subst (λ (list : List TakenFile). IsLarge (get_or list i d)) (same told) (is.1 told);
-      before = none told;
-    })
+    let here : name ≡ (get_or files i d).name = is.0 ∙ one_name files now i d below within names in (
+      (i, omega (arith, below, length-map files (λ (t : TakenFile). t.name)), get_or-map (λ (t : TakenFile). t.name) files i d name below ∙ sym here),
+      λ told. record {
+        place = i;
+        taken = get_or files i d;
+        there = slice_get-get_or files i d below;
+        named = sym here;
+        large = subst (λ (list : List TakenFile). IsLarge (get_or list i d)) (same told) (is.1 told);
+        before = none told;
+      },
+    )

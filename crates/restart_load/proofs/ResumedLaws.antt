@@ -1,15 +1,14 @@
 -- What a restart makes of a folder, and what it tells of one that it refuses.
-use Rattle.std.proofs.Common.{◌≡◌, ◌⊎◌, ℕ, ◌+◌, ◌<◌, ◌≤◌, Bool, true, List, [], length, map, All, Contains, Option, Some, None, IsSome, slice_get, get_or, refl, ap, sym, ◌∙◌, subst, inl, inr, arith}
+use Rattle.std.proofs.Common.{◌≡◌, ℕ, ◌<◌, ◌≤◌, Bool, true, List, length, map, All, Contains, Option, Some, None, IsSome, slice_get, refl, ap, sym, ◌∙◌, subst, inl, inr, arith}
 use Rattle.std.specs.Option.{option_map}
 use Rattle.std.proofs.lemmas.Option.{slice_get_within}
 use Rattle.std.proofs.lemmas.List.{get_or-map, length-map}
 use Rattle.std.proofs.lemmas.List.Elements.{All-contains}
 use Rattle.hr_base.specs.declared.limits.Limits.{Limits}
-use Rattle.hr_base.specs.declared.limits.TheConstants.{MAX_FILE_LEN}
 use Rattle.hr_base.specs.declared.name.ChunkName.{ChunkName}
 use Rattle.hr_base.specs.declared.name.Kind.{Kind}
 use Rattle.hr_base.specs.declared.name.Kind.TheVariants.{V, T, X, W, U, Y}
-use Rattle.hr_base.specs.Names.{IsChunkName, IsUpTo, class_of_kind}
+use Rattle.hr_base.specs.Names.{IsUpTo, class_of_kind}
 use Rattle.hr_base.specs.Entries.{Entries}
 use Rattle.dir_files.specs.Files.{FileState}
 use Rattle.dir_files.specs.Images.{Image, KeepsImages, MayLeave, read_of}
@@ -17,7 +16,7 @@ use Rattle.dir_files.specs.Ports.{IsListing, Port}
 use Rattle.dir_files.specs.PortStates.{IsAtRest, IsGivenBack}
 use Rattle.crash_law.specs.Accounts.{fresh_account}
 use Rattle.crash_law.specs.Placed.{Base}
-use Rattle.crash_law.specs.Restarts.{Agree, Fact, IsRestartable, IsSoundPart}
+use Rattle.crash_law.specs.Restarts.{Agree, Fact, IsRestartable}
 use Rattle.record_replay.specs.Replays.{IsNext}
 use Rattle.record_replay.specs.declared.play.Replayed.{Replayed}
 use Rattle.partition_writer.specs.Standing.{IsBeginning, Standing, Stands, writer_kind}
@@ -27,7 +26,7 @@ use Rattle.restart_load.specs.Numbers.{IsNextAmong, IsWriterName, is_writer_kind
 use Rattle.restart_load.specs.Opening.{AreOpened, CanOpenAll, IsOpened}
 use Rattle.restart_load.specs.Refusals.{IsFirstName, IsRefusedFor, IsStray, NoneStray}
 use Rattle.restart_load.specs.Taking.{IsKept}
-use Rattle.restart_load.specs.Writers.{AreResumed, IsNextChunk, IsResumed, IsWriterChunk, beginning_of}
+use Rattle.restart_load.specs.Writers.{AreResumed, IsNextChunk, IsWriterChunk, beginning_of}
 use Rattle.restart_load.specs.declared.refusal.RestartRefusal.{RestartRefusal}
 use Rattle.restart_load.proofs.LoadLaws.{IsSmallFile, agree_of_parts, loaded_sound, part_sound, replayed_base, replayed_next}
 
@@ -154,10 +153,11 @@ module _ (tells : Bool) (limits : Limits) (port : Port) (names : List ChunkName)
     pub resumed_at : (p : ℕ) (s : Standing) → slice_get writers p ≡ Some s → p < limits.partitions → tells ≡ true → (IsNext (Fact (read_of port) p) s.next) × (IsNextChunk (read_of port) p s.next_chunk) × Stands s (beginning_of (read_of port) s) (fresh_account s.maps)
     resumed_at p s is below told =
         let found = opened p s is in
-        let one : IsOpened tells limits p found.0 found.1 s = found.4 in
-        (subst (IsNext (Fact (read_of port) p)) (sym one.next) (replayed_next (read_of port) files are p found.0 (replayed p found.0 found.2)),
-        subst (IsNextChunk (read_of port) p) (sym one.next_chunk) (next_chunk port names listing p found.1 (next p found.1 found.3)),
-        one.account told (beginning_of (read_of port) s) (begins p found.0 found.1 s found.2 found.3 one below) refl refl refl)
+        let one : IsOpened tells limits p found.0 found.1 s = found.4 in (
+          subst (IsNext (Fact (read_of port) p)) (sym one.next) (replayed_next (read_of port) files are p found.0 (replayed p found.0 found.2)),
+          subst (IsNextChunk (read_of port) p) (sym one.next_chunk) (next_chunk port names listing p found.1 (next p found.1 found.3)),
+          one.account told (beginning_of (read_of port) s) (begins p found.0 found.1 s found.2 found.3 one below) refl refl refl,
+        )
 
   pub all_resumed : length writers ≡ limits.partitions
       → (tells ≡ true → (p : ℕ) (s : Standing) → slice_get writers p ≡ Some s → p < limits.partitions → (IsNext (Fact (read_of port) p) s.next) × (IsNextChunk (read_of port) p s.next_chunk) × Stands s (beginning_of (read_of port) s) (fresh_account s.maps))
@@ -187,8 +187,8 @@ pub resumed_from : (tells : Bool) (limits : Limits) (start port : Port) (names :
 resumed_from tells limits start port names files parts chunks writers opened count same facts =
     all_resumed tells limits start names files parts chunks writers opened count
     (λ told p s is below.
-        subst (λ (image : Image). (IsNext (Fact image p) s.next) × (IsNextChunk image p s.next_chunk) × Stands s (beginning_of image s) (fresh_account s.maps))
-        (one_image (read_of port) (read_of start) (same told)) (facts told p s is below))
+    subst (λ (image : Image). (IsNext (Fact image p) s.next) × (IsNextChunk image p s.next_chunk) × Stands s (beginning_of image s) (fresh_account s.maps))
+    (one_image (read_of port) (read_of start) (same told)) (facts told p s is below))
 
 -- ---- what is said of files by their names
 

@@ -1,12 +1,11 @@
 -- What becomes of files in hand when one more is taken, and when the last one is given back.
-use Rattle.std.proofs.Common.{◌≡◌, ◌≢◌, ◌⊎◌, ℕ, ◌≤◌, Bool, true, false, ◌||◌, not, List, [], ◌∷◌, ◌++◌, length, Option, Some, None, IfSome, IsSome, IsSomeAnd, is_some, refl, ap, sym, ◌∙◌, subst, inl, inr, arith, if◌then◌else◌}
+use Rattle.std.proofs.Common.{◌≡◌, ◌≢◌, Bool, true, false, ◌||◌, not, List, [], ◌∷◌, ◌++◌, Option, Some, None, IfSome, is_some, refl, ap, sym, ◌∙◌, subst, inl, inr, arith, if◌then◌else◌}
 use Rattle.std.proofs.lemmas.Bool.{cases_Bool, false≢true}
 use Rattle.hr_base.specs.declared.name.ChunkName.{ChunkName}
 use Rattle.hr_base.specs.NameTests.{is_name}
-use Rattle.hr_base.proofs.NameTestLaws.{is_name-other, is_name-same, is_name-true, same_name_or_not}
-use Rattle.dir_files.specs.Files.{FileState, Files, IsDurable, IsFile, KeepsMore, Rises, synced_file}
+use Rattle.hr_base.proofs.NameTestLaws.{is_name-other, is_name-same, same_name_or_not}
+use Rattle.dir_files.specs.Files.{FileState, IsDurable, IsFile, Rises, synced_file}
 use Rattle.dir_files.specs.Ports.{Gives, Port, SamePort, Takes, either_file}
-use Rattle.dir_files.specs.PortStates.{IsGivenBack}
 use Rattle.restart_load.specs.Taking.{AllDurableWith, AllNamed, AreApart, HasTaken, TakenFile, files_with, in_hand}
 
 -- ---- look-ups
@@ -79,6 +78,7 @@ module _ (t : TakenFile) where
         let rest : in_hand files t.name ≡ None = sym (head_past a files t.name past) ∙ none in
         (push_in_hand files a.name ∙ either_none (in_hand files a.name) (tail_at a.name) apart.0 ∙ tail_past a.name (turned t.name a.name past), apart_push files apart.1 rest)
   ]
+
   pub apart_pop : (files : List TakenFile) → AreApart (files ++ t ∷ []) → AreApart files × (in_hand files t.name ≡ None)
   apart_pop [] apart = (tt, refl)
   apart_pop (a ∷ files) apart =

@@ -1,7 +1,7 @@
 -- What the files of a folder hold.
 use Rattle.std.specs.Prelude.{◌≡◌, ℕ, List, Contains, All, AllPairs, Some}
 use Rattle.hr_base.specs.declared.name.ChunkName.{ChunkName}
-use Rattle.hr_base.specs.Names.{IsChunkName, IsUpTo, class_of_kind}
+use Rattle.hr_base.specs.Names.{IsUpTo, class_of_kind}
 use Rattle.dir_files.specs.Images.{Image}
 use Rattle.chunk_read.specs.Chunks.{IsDamagedAt}
 use Rattle.record_format.specs.declared.record.Record.{Record}

@@ -1,5 +1,5 @@
 -- Why a chunk file in hand is not read.
-use Rattle.std.specs.Prelude.{◌≡◌, ℕ, ◌<◌, ◌≤◌, Bool, true, Contains, List, length, map, Some, slice_get, ⊤}
+use Rattle.std.specs.Prelude.{◌≡◌, ℕ, ◌<◌, Bool, true, Contains, List, length, map, Some, slice_get, ⊤}
 use Rattle.hr_base.specs.declared.limits.TheConstants.{MAX_FILE_LEN}
 use Rattle.hr_base.specs.declared.name.ChunkName.{ChunkName}
 use Rattle.hr_base.specs.Names.{IsChunkName}

@@ -1,5 +1,5 @@
 -- Chunk files that a restart has in hand.
-use Rattle.std.specs.Prelude.{◌≡◌, ℕ, true, false, List, [], ◌∷◌, Option, Some, None, IfSome, is_some, if◌then◌else◌, ⊤}
+use Rattle.std.specs.Prelude.{◌≡◌, true, false, List, [], ◌∷◌, Some, None, IfSome, is_some, if◌then◌else◌, ⊤}
 use Rattle.hr_base.specs.declared.name.ChunkName.{ChunkName}
 use Rattle.hr_base.specs.NameTests.{is_name}
 use Rattle.dir_files.specs.Files.{FileState, Files, IsDurable, Rises, SameAt}

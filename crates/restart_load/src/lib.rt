@@ -16,3 +16,6 @@ mod taking;
 pub use ended::Ended;
 pub use refusal::RestartRefusal;
 pub use restarting::restart;
+
+#[cfg(test)]
+mod tests;

@@ -2,7 +2,7 @@
 
 ghost use Rattle.hr_base.specs.LimitRanges.{IsPartitionCount};
 
-use crate::{Line, Mode, Reply, ScriptRefusal, print_line, print_reply, read_script};
+use crate::{Line, Mode, Reply, ScriptRefusal, print_entry, print_line, print_reply, read_script};
 use bytes::Bytes;
 use hr_base::{MAX_KEY_LEN, MAX_VALUE_LEN, Memory, Partition};
 use std::alloc::{AllocError, Global};
@@ -283,6 +283,33 @@ fn prints_replies(rt: HostRuntime) -> Result<(), Fail> {
         let mut out = Vec::from_slice(rt.alloc(), b"before\n")?;
         print_reply(&reply, &mut out)?;
         let mut expected = Vec::from_slice(rt.alloc(), b"before\n")?;
+        expected.extend_from_slice(text)?;
+        assert!(rt; out.as_slice() == expected.as_slice(), "{name}");
+    }
+    Ok(())
+}
+
+#[test]
+fn prints_entries(rt: HostRuntime) -> Result<(), Fail> {
+    let rows: [(&str, u8, u64, &[u8], &[u8], &[u8]); 6] = [
+        ("plain", 0, 5, b"k1", b"v1", b"0 5 k1 v1\n"),
+        ("empty key", 1, 0, b"", b"v1", b"1 0 % v1\n"),
+        ("empty value", 2, 10, b"k1", b"", b"2 10 k1 %\n"),
+        ("nothing at nothing", 3, 1, b"", b"", b"3 1 % %\n"),
+        ("escaped", 10, 1, b"\x00a", b"a %", b"10 1 %00a a%20%25\n"),
+        (
+            "greatest",
+            63,
+            18_446_744_073_709_551_615,
+            b"\xff",
+            b"~",
+            b"63 18446744073709551615 %FF ~\n",
+        ),
+    ];
+    let mut out = Vec::from_slice(rt.alloc(), b"before\n")?;
+    let mut expected = Vec::from_slice(rt.alloc(), b"before\n")?;
+    for (name, p, prefix, key, value, text) in rows {
+        print_entry(Partition(p), prefix, key, value, &mut out)?;
         expected.extend_from_slice(text)?;
         assert!(rt; out.as_slice() == expected.as_slice(), "{name}");
     }

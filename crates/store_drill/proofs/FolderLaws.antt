@@ -1,36 +1,39 @@
--- How the writers of a session are opened and closed, and what they leave in the folder.
-use Rattle.std.specs.Prelude.{◌≡◌, ◌⊎◌, ℕ, ◌+◌, ◌-◌, ◌<◌, ◌≤◌, ◌^◌, min, Bool, true, false, ◌&&◌, ◌||◌, not, is_some, List, [], ◌∷◌, ◌++◌, length, Option, Some, None, slice_get, refl, zero, suc}
+-- What the writers of a session begin with, how they are closed, and what they leave in the folder.
+use Rattle.std.specs.Prelude.{◌≡◌, ◌⊎◌, ℕ, ◌+◌, ◌-◌, ◌<◌, ◌≤◌, ◌^◌, min, Bool, true, false, ◌&&◌, ◌||◌, not, is_some, List, [], ◌∷◌, ◌++◌, length, Option, Some, None, slice_get, slice_index_or, refl}
 use Rattle.std.specs.Option.{option_map}
 use Rattle.std.specs.FinMap.{empty}
 use Rattle.std.proofs.Common.{sym, ◌∙◌, ap, subst, inl, inr, arith, append_assoc}
 use Rattle.std.proofs.lemmas.List.{append-nil, length_push}
 use Rattle.std.proofs.lemmas.List.Sums.{sum_by_push}
-use Rattle.std.proofs.lemmas.Option.{slice_get_within, slice_get_past}
-use Rattle.hr_edges.proofs.Writings.{Takes-nothing}
-use Rattle.hr_base.specs.Entries.{Entries, KeepsLimits}
+use Rattle.std.proofs.lemmas.Option.{slice_get_cases, slice_get_past, slice_get_within}
+use Rattle.hr_base.specs.Entries.{Entries}
 use Rattle.hr_base.specs.declared.name.ChunkName.{ChunkName}
-use Rattle.hr_base.proofs.EntryLaws.{get-empty-entries}
 use Rattle.dir_files.specs.Files.{FileState, Files}
-use Rattle.dir_files.specs.Images.{Image, read_of}
-use Rattle.dir_files.specs.Ports.{CanJoin, Joins, Port, SamePort, either_file}
-use Rattle.dir_files.specs.PortStates.{IsGivenBack, IsVacant}
+use Rattle.dir_files.specs.Images.{Image, KeepsImages, read_of}
+use Rattle.dir_files.specs.Ports.{CanJoin, Joins, Port, either_file}
+use Rattle.dir_files.specs.PortStates.{IsAtRest, IsGivenBack}
 use Rattle.crash_law.specs.Accounts.{Account, fresh_account}
 use Rattle.crash_law.specs.Crashes.{AllSurvive, PartSurvives}
-use Rattle.crash_law.specs.Restarts.{AllRestart, RestartsAs}
-use Rattle.crash_law.specs.Writers.{StandsFor, Written}
-use Rattle.crash_law.proofs.FileLaws.{no_files}
+use Rattle.crash_law.specs.Restarts.{AllRestart, Fact, IsRestartOf, IsRestartable, RestartsAs}
 use Rattle.crash_law.proofs.PartLaws.{all_restart, all_survive, part_restarts, part_survives}
-use Rattle.crash_law.proofs.WriterLaws.{stand_begun, stand_exact, stand_survives}
+use Rattle.crash_law.proofs.WriterLaws.{stand_exact, stand_survives}
+use Rattle.record_replay.specs.Replays.{IsNext}
 use Rattle.script_text.specs.declared.line.Line.{Line}
 use Rattle.writer_files.specs.Stocks.{files_of}
-use Rattle.partition_writer.specs.Standing.{IsBeginning, Standing, all_files, start_of, written}
-use Rattle.store_drill.specs.declared.ended.Ended.{Ended}
-use Rattle.store_drill.specs.declared.ended.Ended.TheVariants.{Disk, Memory}
+use Rattle.partition_writer.specs.Standing.{Beginning, Standing, Stands, all_files, start_of, written}
+use Rattle.restart_load.specs.Ends.{ended_of_restart}
+use Rattle.restart_load.specs.Refusals.{IsPrintable, IsRefusedFor}
+use Rattle.restart_load.specs.Writers.{AreResumed, EachIs, IsNextChunk, beginning_of}
+use Rattle.restart_load.specs.declared.refusal.RestartRefusal.{RestartRefusal}
+use Rattle.restart_load.specs.declared.refusal.RestartRefusal.TheVariants as refusal
+use Rattle.restart_load.specs.declared.ended.Ended.{Ended}
+use Rattle.restart_load.specs.declared.ended.Ended.TheVariants.{Disk, Load}
+use Rattle.hr_base.specs.declared.limits.Limits.{Limits}
 use Rattle.store_drill.specs.Accounts.{accounts_at}
-use Rattle.store_drill.specs.Playing.{Left, Played}
-use Rattle.store_drill.specs.Listing.{KeepsImages}
-use Rattle.store_drill.specs.Sessions.{Outside, Ran, Session}
-use Rattle.store_drill.specs.Writers.{Begins, EachFits, EachIs, Goes, HasMaps, HasNumber, IsWhole, OwnsFiles, StandsAt, beginning, faults_of, files_at, files_in}
+use Rattle.store_drill.specs.Numbers.{Start}
+use Rattle.store_drill.specs.Playing.{Played}
+use Rattle.store_drill.specs.Sessions.{IsRefusal, IsStart, NotBegun, Outside, Ran, Session}
+use Rattle.store_drill.specs.Writers.{AllBegin, Begins, EachFits, HasNumber, HaveStart, IsApart, IsLimited, IsWhole, OwnsFiles, Runs, StandsAt, faults_of, files_at, files_in}
 use Rattle.store_drill.proofs.WriterListLaws.{get_at_end}
 
 none_unless : {A : Type 0} (o : Option A) → ((x : A) → o ≡ Some x → ⊥) → o ≡ None
@@ -47,37 +50,6 @@ either_none (Some file) other none = cc
 either_same : (own other : Option FileState) → other ≡ None → either_file own other ≡ own
 either_same None other none = none
 either_same (Some file) other none = refl
-
--- ---- writers are opened
-
--- over no files each writer begins so
-pub is_beginning : (p : ℕ) → IsBeginning p beginning
-is_beginning p = record { base = no_files p; below = λ name bytes found of kind. absurd (no_some None bytes refl found) }
-
-pub empty_limits : KeepsLimits empty
-empty_limits = record {
-  keys = λ k content is. absurd (no_some _ content (get-empty-entries k) is);
-  values = λ k content is. absurd (no_some _ content (get-empty-entries k) is);
-}
-
-pub same_after : (a b c : Port) → SamePort a b → SamePort b c → SamePort a c
-same_after a b c first second = record {
-  held = λ n. second.held n ∙ first.held n;
-  gone = λ n. second.gone n ∙ first.gone n;
-  lent = λ n. second.lent n ∙ first.lent n;
-  foreign = λ n. second.foreign n ∙ first.foreign n;
-  created = λ n. second.created n ∙ first.created n;
-  fixed = λ n. second.fixed n ∙ first.fixed n;
-}
-
-pub vacant_same : (old new : Port) → SamePort old new → IsVacant old → IsVacant new
-vacant_same old new s v = record {
-  given_back = record {
-    calm = record { lent = λ n. s.lent n ∙ v.given_back.calm.lent n; foreign = λ n. s.foreign n ∙ v.given_back.calm.foreign n };
-    gone = λ n. s.gone n ∙ v.given_back.gone n;
-  };
-  held = λ n. s.held n ∙ v.held n;
-}
 
 -- ---- a writer is closed
 
@@ -124,30 +96,30 @@ given_back_joined a b new given given' joins = record {
 
 -- ---- writers are closed, the last one first
 
--- these writers are still to be closed, and the folder has the files of the others
-pub record Closing (tells : Bool) (all rest : List Standing) (port : Port) (before now : ℕ) : Type 0 where
+-- these writers are still to be closed, and the folder has the files of the others beside those that it had
+pub record Closing (tells : Bool) (all rest : List Standing) (start port : Port) (before now : ℕ) : Type 0 where
   pub closed : List Standing
   pub split : all ≡ rest ++ closed
   pub given_back : tells ≡ true → IsGivenBack port
-  pub below : tells ≡ true → (name : ChunkName) → name.partition.0 < length rest → port.held name ≡ None
-  pub above : tells ≡ true → (name : ChunkName) → length rest ≤ name.partition.0 → port.held name ≡ files_at all name
+  pub below : tells ≡ true → (name : ChunkName) → name.partition.0 < length rest → port.held name ≡ start.held name
+  pub above : tells ≡ true → (name : ChunkName) → length rest ≤ name.partition.0 → port.held name ≡ either_file (start.held name) (files_at all name)
   pub count : min (before + faults_of all) (2 ^ 64 - 1) ≤ min (now + faults_of rest) (2 ^ 64 - 1)
   pub kept : before ≤ now
 
 -- none is closed yet
-pub closing_none : (tells : Bool) (all : List Standing) (port : Port) (count : ℕ) → (tells ≡ true → IsVacant port) → Closing tells all all port count count
-closing_none tells all port count vacant = record {
+pub closing_none : (tells : Bool) (all : List Standing) (port : Port) (count : ℕ) → (tells ≡ true → IsGivenBack port) → Closing tells all all port port count count
+closing_none tells all port count given_back = record {
   closed = [];
   split = sym (append-nil all);
-  given_back = λ y. (vacant y).given_back;
-  below = λ y name below. (vacant y).held name;
-  above = λ y name above. (vacant y).held name ∙ sym (ap (λ (o : Option Standing). files_in o name) (slice_get_past all name.partition.0 above));
+  given_back = given_back;
+  below = λ y name below. refl;
+  above = λ y name above. sym (either_same (port.held name) (files_at all name) (ap (λ (o : Option Standing). files_in o name) (slice_get_past all name.partition.0 above)));
   count = omega arith;
   kept = omega arith;
 }
 
-module _ (tells : Bool) (all rest : List Standing) (s : Standing) (port : Port) (before now : ℕ) (closing : Closing tells all (rest ++ s ∷ []) port before now)
-    (numbers : EachFits HasNumber all (λ p. p)) (own : tells ≡ true → EachIs OwnsFiles all) where
+module _ (tells : Bool) (all rest : List Standing) (s : Standing) (start port : Port) (before now : ℕ) (closing : Closing tells all (rest ++ s ∷ []) start port before now)
+    (numbers : EachFits HasNumber all (λ p. p)) (own : tells ≡ true → EachIs OwnsFiles all) (apart : tells ≡ true → EachIs (IsApart start.held) all) where
   is_last : slice_get all (length rest) ≡ Some s
   is_last = ap (λ (writers : List Standing). slice_get writers (length rest)) (closing.split ∙ append_assoc rest (s ∷ []) closing.closed) ∙ get_at_end rest s closing.closed
 
@@ -158,14 +130,14 @@ module _ (tells : Bool) (all rest : List Standing) (s : Standing) (port : Port) 
   length_more = length_push rest s
 
   -- what the folder has is not of the next one
-  pub closing_apart : tells ≡ true → (name : ChunkName) (file : FileState) → files_of s.stock name ≡ Some file → port.held name ≡ None
-  closing_apart y name file is = closing.below y name (omega (arith, own_number y name file is, length_more))
+  pub closing_apart : tells ≡ true → IsApart port.held s
+  closing_apart y name file is = closing.below y name (omega (arith, own_number y name file is, length_more)) ∙ apart y (length rest) s is_last name file is
 
   held_more : tells ≡ true → (name : ChunkName) → (name.partition.0 ≡ length rest) ⊎ (length rest + 1 ≤ name.partition.0)
-      → either_file (port.held name) (files_of s.stock name) ≡ files_at all name
+      → either_file (port.held name) (files_of s.stock name) ≡ either_file (start.held name) (files_at all name)
   held_more y name (inl here) =
-      either_none (port.held name) (files_of s.stock name) (closing.below y name (omega (arith, here, length_more)))
-      ∙ sym (ap (λ (o : Option Standing). files_in o name) (ap (slice_get all) here ∙ is_last))
+      ap (λ (o : Option FileState). either_file o (files_of s.stock name)) (closing.below y name (omega (arith, here, length_more)))
+      ∙ sym (ap (λ (o : Option Standing). either_file (start.held name) (files_in o name)) (ap (slice_get all) here ∙ is_last))
   held_more y name (inr above) =
       either_same (port.held name) (files_of s.stock name)
       (none_unless (files_of s.stock name) (λ file is. let n : ⊥ = omega (arith, own_number y name file is, above) in n))
@@ -174,178 +146,280 @@ module _ (tells : Bool) (all rest : List Standing) (s : Standing) (port : Port) 
   -- one more was closed
   pub closing_more : (port' : Port) (after : ℕ) → (tells ≡ true → IsGivenBack port')
       → (tells ≡ true → (name : ChunkName) → port'.held name ≡ either_file (port.held name) (files_of s.stock name))
-      → min (now + s.faults) (2 ^ 64 - 1) ≤ after → now ≤ after → Closing tells all rest port' before after
+      → min (now + s.faults) (2 ^ 64 - 1) ≤ after → now ≤ after → Closing tells all rest start port' before after
   closing_more port' after given_back held count kept = record {
     closed = s ∷ closing.closed;
     split = closing.split ∙ append_assoc rest (s ∷ []) closing.closed;
     given_back = given_back;
     below = λ y name below.
-        held y name ∙ either_none (port.held name) (files_of s.stock name) (closing.below y name (omega (arith, below, length_more)))
-        ∙ none_unless (files_of s.stock name) (λ file is. let n : ⊥ = omega (arith, own_number y name file is, below) in n);
+        held y name
+        ∙ either_same (port.held name) (files_of s.stock name) (none_unless (files_of s.stock name) (λ file is. let n : ⊥ = omega (arith, own_number y name file is, below) in n))
+        ∙ closing.below y name (omega (arith, below, length_more));
     above = λ y name above. held y name ∙ held_more y name (let here : (name.partition.0 ≡ length rest) ⊎ (length rest + 1 ≤ name.partition.0) = grind arith in here);
     count = omega (arith, closing.count, count, sum_by_push (λ (s : Standing). s.faults) rest s);
     kept = omega (arith, closing.kept, kept);
   }
 
+-- ---- what writers begin with
+
+abbrev maps_in : Option Standing → Entries
+maps_in None = empty
+maps_in (Some s) = s.maps
+
+abbrev next_in : Option Standing → ℕ
+next_in None = 1
+next_in (Some s) = s.next
+
+abbrev next_chunk_in : Option Standing → ℕ
+next_chunk_in None = 1
+next_chunk_in (Some s) = s.next_chunk
+
+-- what each partition begins with
+abbrev pub started : List Standing → Start
+started writers = record {
+  maps = λ p. maps_in (slice_get writers p);
+  next = λ p. next_in (slice_get writers p);
+  next_chunk = λ p. next_chunk_in (slice_get writers p);
+}
+
+-- and the same, over these files
+abbrev pub begins_of : Image → Start → ℕ → Beginning
+begins_of image start p = record { found = image; maps = start.maps p; first = start.next p; first_chunk = start.next_chunk p }
+
+pub have_started : (writers : List Standing) → HaveStart writers (started writers)
+have_started writers = record {
+  maps = λ p s is. sym (ap maps_in is);
+  next = λ p s is. sym (ap next_in is);
+  next_chunk = λ p s is. sym (ap next_chunk_in is);
+}
+
+abbrev begins_in : Image → Option Standing → Beginning
+begins_in image o = record { found = image; maps = maps_in o; first = next_in o; first_chunk = next_chunk_in o }
+
+module _ (tells : Bool) (image : Image) (writers : List Standing) (begun : AllBegin tells image writers) (told : tells ≡ true) where
+  pub begun_stand : EachFits (StandsAt (begins_of image (started writers))) writers (λ p. fresh_account ((started writers).maps p))
+  begun_stand p s is = subst (λ (o : Option Standing). Stands s (begins_in image o) (fresh_account (maps_in o))) (sym is) ((begun p s is).account told)
+
+  pub begun_limited : EachIs IsLimited writers
+  begun_limited p s is = record { next = ((begun p s is).next told).limited; next_chunk = ((begun p s is).next_chunk told).limited }
+
+  -- a writer is there for each partition
+  writer_at : (p : ℕ) → p < length writers → (s : Standing) × (slice_get writers p ≡ Some s)
+  writer_at p below = elim (slice_get_cases writers p).1 [ inl there ↦ (there.0, there.2) | inr past ↦ absurd (omega (arith, past.0, below)) ]
+
+  start_at : (p : ℕ) (s : Standing) → slice_get writers p ≡ Some s → IsRestartOf (Fact image p) s.maps
+  start_at p s is =
+      subst (λ (q : ℕ). IsRestartOf (Fact image q) s.maps) (begun p s is).number ((begun p s is).account told).beginning.base.restart
+
+  pub begun_start : IsRestartable image (length writers) → IsStart image (length writers) (started writers)
+  begun_start restartable = record {
+    maps = record {
+      restartable = restartable;
+      each = λ p below.
+          let one = writer_at p below in
+          subst (λ (o : Option Standing). IsRestartOf (Fact image p) (maps_in o)) (sym one.1) (start_at p one.0 one.1);
+    };
+    next = λ p below.
+        let one = writer_at p below in
+        subst (λ (o : Option Standing). IsNext (Fact image p) (next_in o)) (sym one.1) ((begun p one.0 one.1).next told);
+    next_chunk = λ p below.
+        let one = writer_at p below in
+        subst (λ (o : Option Standing). IsNextChunk image p (next_chunk_in o)) (sym one.1) ((begun p one.0 one.1).next_chunk told);
+  }
+
 -- ---- what the writers leave
 
-past : (writers : List Standing) (p : ℕ) → slice_get writers p ≡ None → length writers ≤ p
-past [] p is = omega arith
-past (s ∷ writers) zero is = cc
-past (s ∷ writers) (suc p) is = omega (arith, past writers p is)
+swap : (a b : Option FileState) → ((file : FileState) → b ≡ Some file → a ≡ None) → either_file a b ≡ either_file b a
+swap None None apart = refl
+swap None (Some f) apart = refl
+swap (Some f) None apart = refl
+swap (Some f) (Some h) apart = absurd (no_some (Some f) f (apart h refl) refl)
+
+is_durable : (file : FileState) → file.named ≡ true → file.front ≡ length file.bytes → file ≡ record { bytes = file.bytes; front = length file.bytes; named = true }
+is_durable file named front =
+    ap (λ (n : ℕ). let one : FileState = record { bytes = file.bytes; front = n; named = file.named } in one) front
+    ∙ ap (λ (b : Bool). let one : FileState = record { bytes = file.bytes; front = length file.bytes; named = b } in one) named
+
+-- a file at rest is the one that is found
+found_again : (o : Option FileState) → ((file : FileState) → o ≡ Some file → (file.named ≡ true) × (file.front ≡ length file.bytes))
+    → o ≡ option_map (λ (bytes : List ℕ). let one : FileState = record { bytes = bytes; front = length bytes; named = true } in one) (option_map (λ (file : FileState). file.bytes) o)
+found_again None rest = refl
+found_again (Some file) rest = ap (λ (f : FileState). Some f) (is_durable file (rest file refl).0 (rest file refl).1)
+
+read_some : (o : Option FileState) (file : FileState) → o ≡ Some file → option_map (λ (f : FileState). f.bytes) o ≡ Some file.bytes
+read_some o file is = ap (option_map (λ (f : FileState). f.bytes)) is
+
+read_from : (file : Option FileState) (bytes : List ℕ) → option_map (λ (f : FileState). f.bytes) file ≡ Some bytes → (f : FileState) × (file ≡ Some f)
+read_from None bytes is = absurd (no_some None bytes refl is)
+read_from (Some f) bytes is = (f, refl)
 
 within_of : (writers : List Standing) (name : ChunkName) (file : FileState) (o : Option Standing) → slice_get writers name.partition.0 ≡ o → files_in o name ≡ Some file
     → name.partition.0 < length writers
 within_of writers name file None is there = absurd (no_some None file refl there)
 within_of writers name file (Some s) is there = slice_get_within writers name.partition.0 s is
 
-read_from : (file : Option FileState) (bytes : List ℕ) → option_map (λ (f : FileState). f.bytes) file ≡ Some bytes → (f : FileState) × (file ≡ Some f)
-read_from None bytes is = absurd (no_some None bytes refl is)
-read_from (Some f) bytes is = (f, refl)
+either_of : (a b : Option FileState) (file : FileState) → either_file a b ≡ Some file → (a ≡ Some file) ⊎ (b ≡ Some file)
+either_of None b file is = inr is
+either_of (Some f) b file is = inl is
 
--- a writer of a partition that has nothing
-nothing : ℕ → Written
-nothing p = record {
-  partition = p;
-  files = λ name. None;
-  gone = λ name. None;
-  maps = empty;
-  records = [];
-  next = 1;
-  lost = false;
-  taking = λ name. false;
-}
+module _ (old : Port) (start : Start) (writers : List Standing) (accounts : ℕ → Account)
+    (each : EachFits (StandsAt (begins_of (read_of old) start)) writers accounts) where
+  -- the files of each writer are of its partition
+  pub all_own : EachIs OwnsFiles writers
+  all_own p s is name file there = ((each p s is).own name file there).partition
 
-nothing_stands : (p : ℕ) → StandsFor (nothing p) (start_of beginning) (fresh_account empty)
-unfolding nothing
-nothing_stands p = stand_begun (nothing p) (start_of beginning) (record {
-  base = no_files p;
-  begun = record { as_found = λ name of. refl; none_gone = λ name of. refl };
-  maps = refl;
-  records = refl;
-  next = refl;
-  lost = refl;
-  taking = λ name. refl;
-})
+  -- and none of them was found
+  pub all_apart : EachIs (IsApart old.held) writers
+  all_apart p s is name file there =
+      let stands = each p s is in
+      let own = stands.own name file there in
+      none_unless (old.held name)
+      (λ found at. let n : ⊥ = omega (arith, own.number, stands.beginning.below name found.bytes (read_some (old.held name) found at) own.partition own.kind) in n)
 
-module _ (partitions : ℕ) (writers : List Standing) (accounts : ℕ → Account) (port : Port) (each : EachFits StandsAt writers accounts) (numbers : EachFits HasNumber writers (λ p. p))
-    (few : length writers ≤ partitions) (others : (p : ℕ) → length writers ≤ p → p < partitions → accounts p ≡ fresh_account empty)
-    (given_back : IsGivenBack port) (held : (name : ChunkName) → port.held name ≡ files_at writers name) where
-  -- the files of a partition are those of its writer
-  files_of_part : (p : ℕ) (name : ChunkName) (o : Option Standing) → slice_get writers p ≡ o → name.partition.0 ≡ p → port.held name ≡ files_in o name
-  files_of_part p name o is of = held name ∙ ap (λ (o : Option Standing). files_in o name) (ap (slice_get writers) of ∙ is)
+  module _ (partitions : ℕ) (rest : IsAtRest old) (restartable : IsRestartable (read_of old) partitions) (numbers : EachFits HasNumber writers (λ p. p))
+      (all : length writers ≡ partitions) (port : Port) (given_back : IsGivenBack port) (held : (name : ChunkName) → port.held name ≡ either_file (old.held name) (files_at writers name)) where
+    -- the files of a partition are those of its writer, and those that were found
+    own_files : (p : ℕ) (s : Standing) → slice_get writers p ≡ Some s → (name : ChunkName) → name.partition.0 ≡ p → port.held name ≡ all_files (files_of s.stock) (read_of old) name
+    own_files p s is name of =
+        held name ∙ ap (λ (o : Option Standing). either_file (old.held name) (files_in o name)) (ap (slice_get writers) of ∙ is)
+        ∙ swap (old.held name) (files_of s.stock name) (λ file there. all_apart p s is name file there)
+        ∙ ap (either_file (files_of s.stock name)) (found_again (old.held name) (λ file there. (rest.named name file there, rest.front name file there)))
 
-  own_files : (p : ℕ) (s : Standing) → slice_get writers p ≡ Some s → (name : ChunkName) → name.partition.0 ≡ p → port.held name ≡ all_files (files_of s.stock) beginning.found name
-  own_files p s is name of = files_of_part p name (Some s) is of ∙ sym (either_same (files_of s.stock name) None refl)
+    one_at : (p : ℕ) → p < partitions → (s : Standing) × (slice_get writers p ≡ Some s)
+    one_at p below = elim (slice_get_cases writers p).1 [ inl there ↦ (there.0, there.2) | inr past ↦ absurd (omega (arith, past.0, below, all)) ]
 
-  survives_at : (p : ℕ) → p < partitions → (o : Option Standing) → slice_get writers p ≡ o → PartSurvives p port.held port.gone (accounts p)
-  unfolding nothing
-  survives_at p below None is =
-      part_survives p (λ name. None) (λ name. None) port.held port.gone (accounts p)
-      (λ name of. files_of_part p name None is of) (λ name of. given_back.gone name)
-      (subst (λ (a : Account). PartSurvives p (λ name. None) (λ name. None) a) (sym (others p (past writers p is) below)) (stand_survives (nothing p) (start_of beginning) (fresh_account empty) (nothing_stands p)))
-  survives_at p below (Some s) is =
-      part_survives p (all_files (files_of s.stock) beginning.found) (λ name. None) port.held port.gone (accounts p)
-      (own_files p s is) (λ name of. given_back.gone name)
-      (subst (λ (q : ℕ). PartSurvives q (all_files (files_of s.stock) beginning.found) (λ name. None) (accounts p)) (numbers p s is)
-      (stand_survives (written s beginning.found) (start_of beginning) (accounts p) (each p s is).facts))
+    survives_at : (p : ℕ) (s : Standing) → slice_get writers p ≡ Some s → PartSurvives p port.held port.gone (accounts p)
+    survives_at p s is =
+        part_survives p (all_files (files_of s.stock) (read_of old)) (λ name. None) port.held port.gone (accounts p)
+        (own_files p s is) (λ name of. given_back.gone name)
+        (subst (λ (q : ℕ). PartSurvives q (all_files (files_of s.stock) (read_of old)) (λ name. None) (accounts p)) (numbers p s is)
+        (stand_survives (written s (read_of old)) (start_of (begins_of (read_of old) start p)) (accounts p) (each p s is).facts))
 
-  restarts_at : EachIs IsWhole writers → (p : ℕ) → p < partitions → (o : Option Standing) → slice_get writers p ≡ o → RestartsAs (read_of port) p (accounts p).maps
-  unfolding nothing
-  restarts_at whole p below None is =
-      part_restarts p (λ name. None) (read_of port) (accounts p).maps
-      (λ name of. ap (option_map (λ (file : FileState). file.bytes)) (files_of_part p name None is of))
-      (subst (λ (a : Account). RestartsAs (λ name. None) p a.maps) (sym (others p (past writers p is) below)) (stand_exact (nothing p) (start_of beginning) (fresh_account empty) (nothing_stands p) refl))
-  restarts_at whole p below (Some s) is =
-      part_restarts p (λ name. option_map (λ file. file.bytes) (all_files (files_of s.stock) beginning.found name)) (read_of port) (accounts p).maps
-      (λ name of. ap (option_map (λ (file : FileState). file.bytes)) (own_files p s is name of))
-      (subst (λ (q : ℕ). RestartsAs (λ name. option_map (λ file. file.bytes) (all_files (files_of s.stock) beginning.found name)) q (accounts p).maps) (numbers p s is)
-      (stand_exact (written s beginning.found) (start_of beginning) (accounts p) (each p s is).facts (whole p s is)))
+    restarts_at : (p : ℕ) (s : Standing) → slice_get writers p ≡ Some s → s.lost ≡ false → RestartsAs (read_of port) p (accounts p).maps
+    restarts_at p s is whole =
+        part_restarts p (λ name. option_map (λ file. file.bytes) (all_files (files_of s.stock) (read_of old) name)) (read_of port) (accounts p).maps
+        (λ name of. ap (option_map (λ (file : FileState). file.bytes)) (own_files p s is name of))
+        (subst (λ (q : ℕ). RestartsAs (λ name. option_map (λ file. file.bytes) (all_files (files_of s.stock) (read_of old) name)) q (accounts p).maps) (numbers p s is)
+        (stand_exact (written s (read_of old)) (start_of (begins_of (read_of old) start p)) (accounts p) (each p s is).facts whole))
 
-  -- each file is of some partition
-  known : (name : ChunkName) (file : FileState) → port.held name ≡ Some file → name.partition.0 < partitions
-  known name file is = omega (arith, few, within_of writers name file (slice_get writers name.partition.0) refl (sym (held name) ∙ is))
+    -- each file is of some partition
+    known : (name : ChunkName) (file : FileState) → port.held name ≡ Some file → name.partition.0 < partitions
+    known name file is = elim (either_of (old.held name) (files_at writers name) file (sym (held name) ∙ is)) [
+      | inl found ↦ restartable.known name file.bytes (read_some (old.held name) file found)
+      | inr own ↦ (let n : name.partition.0 < partitions = omega (arith, all, within_of writers name file (slice_get writers name.partition.0) refl own) in n)
+    ]
 
-  pub all_left : AllSurvive port.held port.gone partitions accounts
-  all_left =
-      all_survive port.held port.gone partitions accounts known (λ name file is. absurd (no_some (port.gone name) file (given_back.gone name) is))
-      (λ p below. survives_at p below (slice_get writers p) refl)
+    pub all_left : AllSurvive port.held port.gone partitions accounts
+    all_left =
+        all_survive port.held port.gone partitions accounts known (λ name file is. absurd (no_some (port.gone name) file (given_back.gone name) is))
+        (λ p below. let one = one_at p below in survives_at p one.0 one.1)
 
-  pub all_read : EachIs IsWhole writers → AllRestart (read_of port) partitions (λ p. (accounts p).maps)
-  all_read whole =
-      all_restart (read_of port) partitions (λ p. (accounts p).maps) (λ name bytes is. let from = read_from (port.held name) bytes is in known name from.0 from.1)
-      (λ p below. restarts_at whole p below (slice_get writers p) refl)
+    pub all_read : EachIs IsWhole writers → AllRestart (read_of port) partitions (λ p. (accounts p).maps)
+    all_read whole =
+        all_restart (read_of port) partitions (λ p. (accounts p).maps) (λ name bytes is. let from = read_from (port.held name) bytes is in known name from.0 from.1)
+        (λ p below. let one = one_at p below in restarts_at p one.0 one.1 (whole p one.0 one.1))
 
 -- ---- a session
 
--- all writers were opened, and the lines were played
-pub left_played : (tells : Bool) (partitions : ℕ) (lines : List Line) (begun writers : List Standing) (before now : Option (List ℕ)) (ended : Ended)
-    → EachFits (Begins tells) begun (λ p. p) → length writers ≡ partitions → Played tells lines begun writers before now ended → Left tells partitions lines writers before now ended
-left_played tells partitions lines begun writers before now ended begins all played = record {
-  count = played.count;
-  within = played.within;
-  all = played.all;
-  text = played.text (λ _. empty) (λ p s is. (begins p s is).maps);
-  few = omega (arith, all);
-  numbers = played.numbers (λ p s is. (begins p s is).number);
-  whole = played.whole;
-  account = λ y. played.account y (λ _. fresh_account empty) (λ p s is. (begins p s is).account y);
-  others = λ p past below. let n : ⊥ = omega (arith, all, past, below) in absurd n;
-}
+module _ (tells : Bool) (lines : List Line) (old : Port) (begun writers : List Standing) (before now : Option (List ℕ)) (ended : Ended) (all : AllBegin tells (read_of old) begun)
+    (played : Played tells lines begun writers before now ended) where
+  -- how the writers stand once the lines were played
+  pub played_stand : tells ≡ true → EachFits (StandsAt (begins_of (read_of old) (started begun))) writers (accounts_at ended lines played.count (λ p. fresh_account ((started begun).maps p)))
+  played_stand y = played.account y (begins_of (read_of old) (started begun)) (λ p. fresh_account ((started begun).maps p)) (begun_stand tells (read_of old) begun all y)
 
--- there was no memory for all of them
-pub left_none : (tells : Bool) (partitions : ℕ) (lines : List Line) (begun : List Standing) (before : Option (List ℕ))
-    → EachFits (Begins tells) begun (λ p. p) → length begun ≤ partitions → Left tells partitions lines begun before before Memory
-left_none tells partitions lines begun before begins few = record {
-  count = 0;
-  within = omega arith;
-  all = λ e. cc;
-  text = (0, omega arith, omega arith, Takes-nothing before);
-  few = few;
-  numbers = λ p s is. (begins p s is).number;
-  whole = λ other p s is. (begins p s is).goes.whole;
-  account = λ y p s is. (begins p s is).account y;
-  others = λ p past below. refl;
-}
+  pub played_numbers : EachFits HasNumber writers (λ p. p)
+  played_numbers = played.numbers (λ p s is. (all p s is).number)
 
--- the files of each writer are of its partition
-pub left_own : (tells : Bool) (partitions : ℕ) (lines : List Line) (writers : List Standing) (before now : Option (List ℕ)) (ended : Ended)
-    → Left tells partitions lines writers before now ended → tells ≡ true → EachIs OwnsFiles writers
-left_own tells partitions lines writers before now ended left y p s is name file there = ((left.account y p s is).own name file there).partition
+-- the writers were closed over the folder that was restarted
+pub session_ran : (tells : Bool) (lines : List Line) (begun writers : List Standing) (old new : Outside) (ended : Ended) (all : AllBegin tells (read_of old.port) begun)
+    → (tells ≡ true → IsRestartable (read_of old.port) (length begun)) → (tells ≡ true → IsAtRest old.port) → Played tells lines begun writers old.taken new.taken ended → length writers ≡ length begun
+    → (tells ≡ true → IsGivenBack new.port) → (tells ≡ true → (name : ChunkName) → new.port.held name ≡ either_file (old.port.held name) (files_at writers name))
+    → Session tells (length begun) lines old new ended
+session_ran tells lines begun writers old new ended all restartable rest played same given_back held =
+    let start : Start = started begun in
+    let have : HaveStart begun start = have_started begun in
+    let accounts : ℕ → Account = accounts_at ended lines played.count (λ p. fresh_account (start.maps p)) in
+    record {
+      start = start;
+      started = λ y. begun_start tells (read_of old.port) begun all y (restartable y);
+      count = played.count;
+      within = played.within;
+      all = played.all;
+      text = played.text start.maps have.maps;
+      limited = λ y. played.limited (begun_limited tells (read_of old.port) begun all y) start have;
+      spent = λ y. played.spent (begun_limited tells (read_of old.port) begun all y) start have;
+      survives = λ y.
+          all_left old.port start writers accounts (played_stand tells lines old.port begun writers old.taken new.taken ended all played y) (length begun) (rest y) (restartable y)
+          (played_numbers tells lines old.port begun writers old.taken new.taken ended all played) same new.port (given_back y) (held y);
+      exact = λ y other.
+          all_read old.port start writers accounts (played_stand tells lines old.port begun writers old.taken new.taken ended all played y) (length begun) (rest y) (restartable y)
+          (played_numbers tells lines old.port begun writers old.taken new.taken ended all played) same new.port (given_back y) (held y) (played.whole other);
+    }
 
--- the writers were closed over a folder that was empty
-pub session_ran : (tells : Bool) (partitions : ℕ) (lines : List Line) (writers : List Standing) (old new : Outside) (ended : Ended)
-    → Left tells partitions lines writers old.taken new.taken ended → (tells ≡ true → IsVacant old.port) → (tells ≡ true → IsGivenBack new.port)
-    → (tells ≡ true → (name : ChunkName) → new.port.held name ≡ files_at writers name) → Session tells partitions lines old new ended
-session_ran tells partitions lines writers old new ended left vacant given_back held = record {
-  count = left.count;
-  within = left.within;
-  all = left.all;
-  text = left.text;
-  fresh = λ y. (vacant y).held;
-  survives = λ y. all_left partitions writers (accounts_at ended lines left.count (λ _. fresh_account empty)) new.port (left.account y) left.numbers left.few left.others (given_back y) (held y);
-  exact = λ y other.
-      all_read partitions writers (accounts_at ended lines left.count (λ _. fresh_account empty)) new.port (left.account y) left.numbers left.few left.others (given_back y) (held y) (left.whole other);
-}
+-- ---- a folder that was restarted
 
--- and the calls before it left each file as it was
+one_image : (a b : Image) → ((name : ChunkName) → a name ≡ b name) → a ≡ b
+one_image a b same = λ i name. same name i
+
+-- the writers of a restart begin over what is read of the folder since
+pub begun_resumed : (tells : Bool) (limits : Limits) (old mid : Port) (writers : List Standing) → (tells ≡ true → KeepsImages old mid) → AreResumed tells limits (read_of old) writers
+    → AllBegin tells (read_of mid) writers
+begun_resumed tells limits old mid writers keeps resumed p s is =
+    let one = resumed p s is in
+    record {
+      number = one.number;
+      runs = record { running = one.running; whole = one.whole };
+      faults = one.faults;
+      files = one.files;
+      next = λ y. subst (λ (image : Image). IsNext (Fact image p) s.next) (sym (one_image (read_of mid) (read_of old) (keeps y).read)) (one.next y);
+      next_chunk = λ y. subst (λ (image : Image). IsNextChunk image p s.next_chunk) (sym (one_image (read_of mid) (read_of old) (keeps y).read)) (one.next_chunk y);
+      account = λ y. subst (λ (image : Image). Stands s (beginning_of image s) (fresh_account s.maps)) (sym (one_image (read_of mid) (read_of old) (keeps y).read)) (one.account y);
+    }
+
+pub restartable_since : (old mid : Port) (partitions : ℕ) → KeepsImages old mid → IsRestartable (read_of old) partitions → IsRestartable (read_of mid) partitions
+restartable_since old mid partitions keeps restartable =
+    subst (λ (image : Image). IsRestartable image partitions) (sym (one_image (read_of mid) (read_of old) keeps.read)) restartable
+
+-- and a session over it began with what the folder restarted to
 pub ran_after : (tells : Bool) (partitions : ℕ) (lines : List Line) (old mid : Port) (faults more : ℕ) (taken : Option (List ℕ)) (new : Outside) (ended : Ended)
-    → (tells ≡ true → KeepsImages old mid) → (tells ≡ true → (name : ChunkName) → old.held name ≡ None)
-    → Ran tells partitions lines (record { port = mid; faults = more; taken = taken }) new ended → Ran tells partitions lines (record { port = old; faults = faults; taken = taken }) new ended
-ran_after tells partitions lines old mid faults more taken new ended keeps none ran = elim ran [
-  | inl refused ↦ inl (record {
-    unfinished = refused.unfinished;
-    silent = refused.silent;
-    read = λ y name. refused.read y name ∙ (keeps y).read name;
-    images = λ y image is. (keeps y).images image (refused.images y image is);
-  })
-  | inr session ↦ inr (record {
-    count = session.count;
-    within = session.within;
-    all = session.all;
-    text = session.text;
-    fresh = none;
-    survives = session.survives;
-    exact = session.exact;
-  })
-]
+    → (tells ≡ true → KeepsImages old mid) → Session tells partitions lines (record { port = mid; faults = more; taken = taken }) new ended
+    → Ran tells partitions lines (record { port = old; faults = faults; taken = taken }) new ended
+ran_after tells partitions lines old mid faults more taken new ended keeps session = inr (record {
+  start = session.start;
+  started = λ y. subst (λ (image : Image). IsStart image partitions session.start) (one_image (read_of mid) (read_of old) (keeps y).read) (session.started y);
+  count = session.count;
+  within = session.within;
+  all = session.all;
+  text = session.text;
+  limited = session.limited;
+  spent = session.spent;
+  survives = session.survives;
+  exact = session.exact;
+})
+
+-- ---- a folder that was not restarted
+
+refusal_of : (e : RestartRefusal) → IsPrintable e → IsRefusal (ended_of_restart e)
+refusal_of refusal.Memory printable = tt
+refusal_of refusal.DiskFault printable = tt
+refusal_of (refusal.Partition name) printable = (tt, printable)
+refusal_of (refusal.TooLarge name) printable = (tt, printable)
+refusal_of (refusal.Damaged name at) printable = (tt, printable)
+refusal_of (refusal.Clash p seq) printable = (tt, printable)
+
+loaded_as : (e other : RestartRefusal) → ended_of_restart e ≡ Load other → e ≡ other
+loaded_as refusal.Memory other is = cc
+loaded_as refusal.DiskFault other is = cc
+loaded_as (refusal.Partition name) other is = cc
+loaded_as (refusal.TooLarge name) other is = cc
+loaded_as (refusal.Damaged name at) other is = cc
+loaded_as (refusal.Clash p seq) other is = cc
+
+pub not_begun : (tells : Bool) (partitions : ℕ) (old new : Outside) (e : RestartRefusal) (ended : Ended) → ended ≡ ended_of_restart e → new.taken ≡ old.taken → IsPrintable e
+    → (tells ≡ true → IsRefusedFor (read_of old.port) partitions e) → (tells ≡ true → KeepsImages old.port new.port) → NotBegun tells partitions old new ended
+not_begun tells partitions old new e ended is silent printable refused keeps = record {
+  refusal = subst IsRefusal (sym is) (refusal_of e printable);
+  silent = silent;
+  content = λ y other same. subst (IsRefusedFor (read_of old.port) partitions) (loaded_as e other (sym is ∙ same)) (refused y);
+  images = keeps;
+}

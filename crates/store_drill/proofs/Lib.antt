@@ -1,5 +1,5 @@
+mod DumpLaws
 mod FolderLaws
-mod NameLaws
 mod SessionLaws
 mod StepLaws
 mod WriterListLaws

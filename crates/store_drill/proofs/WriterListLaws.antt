@@ -4,7 +4,8 @@ use Rattle.std.proofs.Common.{sym, ◌∙◌, ap, subst, inl, inr, arith, eq-eqb
 use Rattle.std.proofs.lemmas.List.Sums.{get_or-le-sum_by, sum_by-set}
 use Rattle.script_text.specs.Replies.{changed_at}
 use Rattle.partition_writer.specs.Standing.{Standing}
-use Rattle.store_drill.specs.Writers.{EachFits, EachIs, faults_of}
+use Rattle.restart_load.specs.Writers.{EachIs}
+use Rattle.store_drill.specs.Writers.{EachFits, faults_of}
 
 -- ---- lists
 
@@ -24,12 +25,6 @@ pub get_at_end : {A : Type 0} (xs : List A) (x : A) (ys : List A) → slice_get 
 get_at_end [] x ys = refl
 get_at_end (z ∷ xs) x ys = get_at_end xs x ys
 
-get_pushed : {A : Type 0} (xs : List A) (x y : A) (i : ℕ) → slice_get (xs ++ x ∷ []) i ≡ Some y → (slice_get xs i ≡ Some y) ⊎ ((i ≡ length xs) × (y ≡ x))
-get_pushed [] x y zero is = inr (refl, cc)
-get_pushed [] x y (suc i) is = cc
-get_pushed (z ∷ xs) x y zero is = inl is
-get_pushed (z ∷ xs) x y (suc i) is = elim (get_pushed xs x y i is) [ inl h ↦ inl h | inr h ↦ inr (ap suc h.0, h.1) ]
-
 -- ---- one writer changes
 
 same_or_not : (p q : ℕ) → (p ≡ q) ⊎ (p ≢ q)
@@ -41,15 +36,15 @@ changed_same values q value = let same : (q == q) ≡ true = eq-eqb q q refl in 
 changed_other : {A : Type 0} (values : ℕ → A) (p q : ℕ) (value : A) → p ≢ q → changed_at values q value p ≡ values p
 changed_other values p q value apart = let other : (p == q) ≡ false = grind arith in rw other refl
 
-pub each_changed : {A : Type 0} (says : A → Standing → Type 0) (writers : List Standing) (values : ℕ → A) (q : ℕ) (t : Standing) (value : A)
-    → EachFits says writers values → says value t → EachFits says (slice_set writers q t) (changed_at values q value)
+pub each_changed : {A : Type 0} (says : ℕ → A → Standing → Type 0) (writers : List Standing) (values : ℕ → A) (q : ℕ) (t : Standing) (value : A)
+    → EachFits says writers values → says q value t → EachFits says (slice_set writers q t) (changed_at values q value)
 each_changed says writers values q t value each here p s is = elim (same_or_not p q) [
   | inl same ↦
       let at : slice_get (slice_set writers q t) q ≡ Some s = subst (λ (n : ℕ). slice_get (slice_set writers q t) n ≡ Some s) same is in
-      subst (λ (n : ℕ). says (changed_at values q value n) s) (sym same)
-      (subst (λ (v : _). says v s) (sym (changed_same values q value)) (subst (λ (u : Standing). says value u) (sym (get_set_same writers q t s at)) here))
+      subst (λ (n : ℕ). says n (changed_at values q value n) s) (sym same)
+      (subst (λ (v : _). says q v s) (sym (changed_same values q value)) (subst (λ (u : Standing). says q value u) (sym (get_set_same writers q t s at)) here))
   | inr apart ↦
-      subst (λ (v : _). says v s) (sym (changed_other values p q value apart))
+      subst (λ (v : _). says p v s) (sym (changed_other values p q value apart))
       (each p s (sym (get_set_other writers q p t apart) ∙ is))
 ]
 
@@ -62,22 +57,13 @@ each_is_changed says writers q t each here p s is = elim (same_or_not p q) [
 ]
 
 -- what was said of each of them lasts where it does of the one
-pub each_kept : {A : Type 0} (says : A → Standing → Type 0) (writers : List Standing) (values : ℕ → A) (q : ℕ) (t : Standing)
-    → EachFits says writers values → says (values q) t → EachFits says (slice_set writers q t) values
+pub each_kept : {A : Type 0} (says : ℕ → A → Standing → Type 0) (writers : List Standing) (values : ℕ → A) (q : ℕ) (t : Standing)
+    → EachFits says writers values → says q (values q) t → EachFits says (slice_set writers q t) values
 each_kept says writers values q t each here p s is = elim (same_or_not p q) [
   | inl same ↦
       let at : slice_get (slice_set writers q t) q ≡ Some s = subst (λ (n : ℕ). slice_get (slice_set writers q t) n ≡ Some s) same is in
-      subst (λ (n : ℕ). says (values n) s) (sym same) (subst (λ (u : Standing). says (values q) u) (sym (get_set_same writers q t s at)) here)
+      subst (λ (n : ℕ). says n (values n) s) (sym same) (subst (λ (u : Standing). says q (values q) u) (sym (get_set_same writers q t s at)) here)
   | inr apart ↦ each p s (sym (get_set_other writers q p t apart) ∙ is)
-]
-
--- ---- one more writer
-
-pub each_pushed : {A : Type 0} (says : A → Standing → Type 0) (writers : List Standing) (values : ℕ → A) (t : Standing)
-    → EachFits says writers values → says (values (length writers)) t → EachFits says (writers ++ t ∷ []) values
-each_pushed says writers values t each here p s is = elim (get_pushed writers t s p is) [
-  | inl before ↦ each p s before
-  | inr last ↦ subst (λ (n : ℕ). says (values n) s) (sym last.0) (subst (λ (u : Standing). says (values (length writers)) u) (sym last.1) here)
 ]
 
 -- ---- faults

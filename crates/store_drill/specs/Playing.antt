@@ -14,7 +14,7 @@ use Rattle.partition_writer.specs.declared.refusal.WriteRefusal.TheVariants.{Mem
 use Rattle.partition_writer.specs.declared.refusal.WriteRefusal.TheVariants as refusal
 use Rattle.restart_load.specs.declared.ended.Ended.{Ended}
 use Rattle.restart_load.specs.declared.ended.Ended.TheVariants.{Whole, Disk}
-use Rattle.restart_load.specs.declared.ended.Ended.TheVariants as ended
+use Rattle.restart_load.specs.declared.ended.Ended.TheVariants as ends
 use Rattle.restart_load.specs.Writers.{EachIs}
 use Rattle.store_drill.specs.declared.step.Step.{Step}
 use Rattle.store_drill.specs.declared.step.Step.TheVariants.{Answered, NoReply, NoMemory, DiskFailed, Spent}
@@ -98,7 +98,7 @@ pub record Played (tells : Bool) (lines : List Line) (old new : List Standing) (
   pub numbers : EachFits HasNumber old (λ p. p) → EachFits HasNumber new (λ p. p)
   -- no number was used that none can have, and want of a number ended it only where the next line needs one
   pub limited : EachIs IsLimited old → (start : Start) → HaveStart old start → (p : ℕ) → p < length old → next_after_lines (take count lines) start.maps start.next p ≤ SEQ_END
-  pub spent : EachIs IsLimited old → (start : Start) → HaveStart old start → (next : ℕ) → ended ≡ ended.Spent next → IsSpentAt lines count start next
+  pub spent : EachIs IsLimited old → (start : Start) → HaveStart old start → (next : ℕ) → ended ≡ ends.Spent next → IsSpentAt lines count start next
   -- unless the disk refused a line, no record lacks bytes
   pub whole : (ended ≡ Disk → ⊥) → EachIs IsWhole new
   pub account : tells ≡ true → (begins : ℕ → Beginning) (accounts : ℕ → Account) → EachFits (StandsAt begins) old accounts

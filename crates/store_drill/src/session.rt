@@ -9,9 +9,10 @@ ghost use Rattle.crash_law.specs.Restarts.{IsRestartable};
 ghost use Rattle.script_text.specs.declared.line.Mode.TheVariants.{Play};
 ghost use Rattle.script_text.specs.Lines.{IsLine};
 ghost use Rattle.restart_load.specs.declared.ended.Ended.{Ended};
-ghost use Rattle.restart_load.specs.Writers.{standings};
+ghost use Rattle.restart_load.specs.Writers.{EachIs, standings};
+ghost use Rattle.store_drill.specs.Playing.{Played};
 ghost use Rattle.store_drill.specs.Sessions.{Ran, Session, outside};
-ghost use Rattle.store_drill.specs.Writers.{AllBegin};
+ghost use Rattle.store_drill.specs.Writers.{AllBegin, Runs, faults_of};
 
 use crate::lines::play_lines;
 use crate::writers::close_writers;
@@ -22,6 +23,24 @@ use partition_writer::Writer;
 use restart_load::{Ended, restart};
 use script_text::Line;
 use std::alloc::Global;
+
+/// Plays lines on writers in a list.
+fn play_on<F: Folder, K: Sink>(
+    alloc: Global,
+    writers: &mut Vec<Writer<F>>,
+    lines: &[Line],
+    out: &mut K,
+) -> Ended
+    requires valid { All (IsLine Play (length writers.old.items)) lines.now }
+    requires running { EachIs Runs (standings writers.old.items) }
+    ensures played { Played F.tells lines.now (standings writers.old.items) (standings writers.new.items) (K.taken out.old) (K.taken out.new) result }
+    ensures same { length writers.new.items ≡ length writers.old.items }
+    ensures disk { result ≡ Ended.Disk → 1 ≤ faults_of (standings writers.new.items) }
+    ensures sink { result ≡ Ended.Sink → Rose (K.count out.old) (K.count out.new) }
+    ensures sink_kept { K.count out.old ≤ K.count out.new }
+{
+    play_lines(alloc, writers.as_mut_slice(), lines, out)
+}
 
 /// Plays lines on the writers of a folder that was restarted, and closes them.
 fn play_restarted<F: Folder, K: Sink>(
@@ -43,7 +62,7 @@ fn play_restarted<F: Folder, K: Sink>(
     ensures kept { F.count folder.old ≤ F.count folder.new }
     ensures sink_kept { K.count out.old ≤ K.count out.new }
 {
-    let ended = play_lines(alloc, writers.as_mut_slice(), lines, out);
+    let ended = play_on(alloc, &mut writers, lines, out);
     close_writers(writers, folder);
     ended
 }

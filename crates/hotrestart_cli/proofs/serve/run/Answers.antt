@@ -1,4 +1,5 @@
 use Rattle.std.proofs.Common.{◌≡◌, ℕ, List, Result, Err, IsErrOf, refl, inl, subst, sym, ◌∙◌}
+use Rattle.hr_base.specs.declared.limits.Limits.{Limits}
 use Rattle.command_words.specs.declared.parse.WordsRefusal.{WordsRefusal}
 use Rattle.command_words.specs.declared.parse.WordsRefusal.TheVariants as refusal
 use Rattle.command_words.specs.declared.read.Command.{Command}
@@ -7,13 +8,15 @@ use Rattle.command_words.specs.Words.{texts_of}
 use Rattle.command_words.proofs.Words.{one_meaning}
 use Rattle.hotrestart_cli.specs.declared.outcome.Outcome.{Outcome}
 use Rattle.hotrestart_cli.specs.Ends.{outcome_of_words}
+use Rattle.hotrestart_cli.specs.Scripts.{IsUnfit}
 use Rattle.hotrestart_cli.specs.Served.{IsNoCommand, IsRefusedWords}
 use Rattle.hotrestart_cli.proofs.serve.run.Goals as goal
 
 pub returns-in-Ok-Play-clause-spared : goal.returns-in-Ok-Play-clause-spared
 returns-in-Ok-Play-clause-spared g c limits meaning unfit =
-    let same : c.in-Ok-Play.field-0 ≡ Play limits = one_meaning _ _ _ c.in-Ok-Play.ensures.found meaning in
-    c.play_script.ensures.spared (rw same unfit)
+    let same : Play limits ≡ Play c.in-Ok-Play.limits = one_meaning _ _ _ meaning c.in-Ok-Play.ensures.found ∙ c.in-Ok-Play.field-0-is in
+    let own : limits ≡ c.in-Ok-Play.limits = cc in
+    c.play_script.ensures.spared (subst (λ (l : Limits). IsUnfit l.partitions (g.S.Source.left c.args.input.now)) own unfit)
 
 -- the refusal is told as it is
 refused : (words : List (List ℕ)) (result : Result Command WordsRefusal) (r : WordsRefusal) → result ≡ Err r → (IsErrOf result refusal.Words → IsNoCommand words) → IsRefusedWords words (outcome_of_words r)

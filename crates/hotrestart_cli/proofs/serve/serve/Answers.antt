@@ -1,16 +1,21 @@
 use Rattle.std.proofs.Common.{◌∙◌, ap, inl, inr}
-use Rattle.command_words.specs.declared.read.Command.TheVariants.{Play}
+use Rattle.restart_load.proofs.LoadLaws.{not_refused}
 use Rattle.hotrestart_cli.specs.Outcome.{last_line}
-use Rattle.hotrestart_cli.specs.Served.{WasRefused}
-use Rattle.hotrestart_cli.proofs.Outcomes.{all_done, disk_told, early_told, held_told, input_told, spent_told, wordless_told, words_told}
-use Rattle.hotrestart_cli.proofs.Refusals.{done_told, fit_refused, means_this, named_told, not_refused, not_whole, read_told, refused_told, rose_earlier, rose_later, unfit_told}
+use Rattle.hotrestart_cli.specs.Served.{WasDone, WasRefused, WasSpentBy, WasUnloadable, partitions_of}
+use Rattle.hotrestart_cli.proofs.Doings.{begins_fit, begins_restartable, begins_unspent, done_restarts, done_told, number_told, read_told, spent_restarts, unwritten_by}
+use Rattle.hotrestart_cli.proofs.Meanings.{means_this, rose_earlier, rose_later}
+use Rattle.hotrestart_cli.proofs.Outcomes.{all_done, disk_told, early_told, input_told, wordless_told, words_told, wrong_told}
+use Rattle.hotrestart_cli.proofs.Refusals.{fit_refused, refused_told, unfit_told, unloadable_told}
 use Rattle.hotrestart_cli.proofs.serve.serve.Goals as goal
 
 pub returns-clause-whole : goal.returns-clause-whole
 returns-clause-whole g c e = done_told _ _ _ _ _ _ _ c.run-outcome.ensures.because c.tell.ensures.told e
 
 pub returns-clause-ended : goal.returns-clause-ended
-returns-clause-ended g c h = read_told _ _ _ _ _ _ _ c.run-outcome.ensures.because c.tell.ensures.told h
+returns-clause-ended g c limits meaning h = read_told _ _ _ _ _ _ _ limits c.run-outcome.ensures.because c.tell.ensures.told meaning h
+
+pub returns-clause-unwritten : goal.returns-clause-unwritten
+returns-clause-unwritten g c y limits meaning = unwritten_by _ _ _ _ _ limits c.run-outcome.ensures.because y meaning
 
 pub returns-clause-words : goal.returns-clause-words
 returns-clause-words g c e = (c.run-outcome.ensures.words (words_told _ _ _ _ c.tell.ensures.told e)).0
@@ -42,34 +47,35 @@ returns-clause-input g c e = c.run-outcome.ensures.input (input_told _ _ _ _ c.t
 pub returns-clause-disk : goal.returns-clause-disk
 returns-clause-disk g c e = c.run-outcome.ensures.disk (disk_told _ _ _ _ c.tell.ensures.told e)
 
-pub returns-clause-not_built : goal.returns-clause-not_built
-returns-clause-not_built g c y e = named_told _ _ _ _ _ _ _ c.run-outcome.ensures.because c.tell.ensures.told (λ name is. c.run-outcome.ensures.not_built y name is) e
+pub returns-clause-unloadable : goal.returns-clause-unloadable
+returns-clause-unloadable g c y e = unloadable_told _ _ _ _ _ _ _ c.run-outcome.ensures.because c.tell.ensures.told y e
 
 pub returns-clause-spent : goal.returns-clause-spent
-returns-clause-spent g c e = let next = spent_told _ _ _ _ c.tell.ensures.told e in c.run-outcome.ensures.spent next.0 next.1
+returns-clause-spent g c y e = number_told _ _ _ _ _ _ _ c.run-outcome.ensures.because c.tell.ensures.told y e
 
 pub returns-clause-complete : goal.returns-clause-complete
-returns-clause-complete g c tells limits meaning fit vacant source sink folder =
+returns-clause-complete g c y command meaning can source sink folder =
     let heard = c.tell.ensures.told in
     let because = c.run-outcome.ensures.because in
     all_done _ _ _ _ heard
-    (λ e. (c.run-outcome.ensures.words (words_told _ _ _ _ heard e)).0 (Play limits) meaning)
-    (λ e. fit_refused limits _ _ _ _ fit (means_this _ (λ command. WasRefused command _ _ _ _) (Play limits) meaning (refused_told _ _ _ _ _ _ _ because heard e)))
+    (λ e. (c.run-outcome.ensures.words (words_told _ _ _ _ heard e)).0 command meaning)
+    (λ e. fit_refused command _ _ _ _ (begins_fit command _ _ can) (means_this _ (λ x. WasRefused x _ _ _ _) command meaning (refused_told _ _ _ _ _ _ _ because heard e)))
     (λ e. source (c.run-outcome.ensures.input (input_told _ _ _ _ heard e)))
     (λ e. elim (c.tell.ensures.sink e) [
       | inl at ↦ sink (rose_later _ _ _ (c.run-outcome.ensures.sink at) c.tell.ensures.kept)
       | inr rose ↦ sink (rose_earlier _ _ _ c.run-outcome.ensures.sink_kept rose)
     ])
     (λ e. folder (c.run-outcome.ensures.disk (disk_told _ _ _ _ heard e)))
-    (λ e. not_refused _ _ _ vacant (named_told _ _ _ _ _ _ _ because heard (λ name is. c.run-outcome.ensures.not_built tells name is) e))
-    (λ e. let next = spent_told _ _ _ _ heard e in c.run-outcome.ensures.spent next.0 next.1)
+    (λ e. let wrong = means_this _ (λ x. WasUnloadable (partitions_of x) _ _ _) command meaning (unloadable_told _ _ _ _ _ _ _ because heard y e) in
+      not_refused _ _ (begins_restartable command _ _ can) wrong.refusal wrong.first wrong.content)
+    (λ e. begins_unspent command _ _ _ _ can (means_this _ (λ x. WasSpentBy x _ _ _ _) command meaning (number_told _ _ _ _ _ _ _ because heard y e)))
 
-pub returns-clause-built : goal.returns-clause-built
-returns-clause-built g c tells limits meaning fit name held =
+pub returns-clause-loaded : goal.returns-clause-loaded
+returns-clause-loaded g c y command meaning fit refusal content first =
     let heard = c.tell.ensures.told in
     let because = c.run-outcome.ensures.because in
-    held_told _ _ _ _ heard
-    (λ e. not_whole _ _ _ _ _ _ _ name because heard e tells held)
-    (λ e. (c.run-outcome.ensures.words (words_told _ _ _ _ heard e)).0 (Play limits) meaning)
-    (λ e. fit_refused limits _ _ _ _ fit (means_this _ (λ command. WasRefused command _ _ _ _) (Play limits) meaning (refused_told _ _ _ _ _ _ _ because heard e)))
-    (λ e. let next = spent_told _ _ _ _ heard e in c.run-outcome.ensures.spent next.0 next.1)
+    wrong_told _ _ _ _ heard
+    (λ e. not_refused _ _ (done_restarts _ command _ _ _ _ y (means_this _ (λ x. WasDone _ x _ _ _ _) command meaning (done_told _ _ _ _ _ _ _ because heard e))) refusal first content)
+    (λ e. (c.run-outcome.ensures.words (words_told _ _ _ _ heard e)).0 command meaning)
+    (λ e. fit_refused command _ _ _ _ fit (means_this _ (λ x. WasRefused x _ _ _ _) command meaning (refused_told _ _ _ _ _ _ _ because heard e)))
+    (λ e. not_refused _ _ (spent_restarts command _ _ _ _ (means_this _ (λ x. WasSpentBy x _ _ _ _) command meaning (number_told _ _ _ _ _ _ _ because heard y e))) refusal first content)

@@ -1,7 +1,5 @@
 use Rattle.std.proofs.Common.{arith}
 use Rattle.restart_load.proofs.NameLaws.{first_unknown}
-use Rattle.restart_load.proofs.FolderLaws.{folder_refusal}
-use Rattle.restart_load.proofs.ResumedLaws.{all_resumed}
 use Rattle.restart_load.proofs.listing.first_stray.Goals as goal
 
 pub returns-then-name-partitions-clause-first : goal.returns-then-name-partitions-clause-first

@@ -1,4 +1,4 @@
-use Rattle.std.proofs.Common.{◌≡◌, ◌≤◌, ◌+◌, ◌-◌, true, length, take}
+use Rattle.std.proofs.Common.{◌≡◌, ◌+◌, ◌-◌, true, length, take}
 use Rattle.hr_base.specs.declared.limits.TheConstants.{MAX_FILE_LEN}
 use Rattle.dir_files.specs.Ports.{SamePort}
 use Rattle.restart_load.proofs.reading.read_file.Given as goal

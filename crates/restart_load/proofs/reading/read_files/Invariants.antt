@@ -1,6 +1,5 @@
-use Rattle.std.proofs.Common.{◌≡◌, ◌≤◌, ◌<◌, ◌+◌, ℕ, true, false, All, length, map, take, Some, slice_get, vec_capacity}
+use Rattle.std.proofs.Common.{◌≡◌, ◌≤◌, ◌<◌, ℕ, true, All, length, map, take, Some, slice_get, vec_capacity}
 use Rattle.hr_base.specs.declared.limits.TheConstants.{MAX_FILE_LEN}
-use Rattle.dir_files.specs.Faults.{CountsFault}
 use Rattle.dir_files.specs.Ports.{SamePort}
 use Rattle.restart_load.specs.Reading.{IsLarge}
 use Rattle.restart_load.specs.Taking.{TakenFile, bytes_of}

@@ -1,5 +1,4 @@
 use Rattle.std.proofs.lemmas.Result.{IfOk-weaker}
-use Rattle.dir_files.specs.PortStates.{IsAtRest}
 use Rattle.restart_load.proofs.FolderLaws.{all_at_rest, all_given, all_keep, all_read, all_refused}
 use Rattle.restart_load.proofs.restarting.read_folder.Goals as goal
 

@@ -1,4 +1,4 @@
-use Rattle.std.proofs.Common.{◌≡◌, ◌<◌, ℕ, All, List, length, Some, slice_get, sym, subst, ◌∙◌, arith}
+use Rattle.std.proofs.Common.{◌≡◌, ◌<◌, ℕ, All, List, Some, slice_get, sym, subst, ◌∙◌, arith}
 use Rattle.std.proofs.lemmas.List.{length-map}
 use Rattle.std.proofs.lemmas.Result.{err_from_is_err_and}
 use Rattle.hr_base.specs.declared.name.ChunkName.{ChunkName}
@@ -55,9 +55,9 @@ returns-clause-resumed g c =
     (length-map c.in_ok-writers.writers.items (λ writer. standing writer) ∙ c.in_ok-writers.ensures.all)
     (λ tells. (c.list_names.ensures.images tells).read)
     (λ tells p s is below.
-        resumed_at g.F.Folder.tells c.args.limits.now (g.F.Folder.port c.list_names.new.folder) c.in_ok-names.names.items c.in_ok-contents.contents.items c.in_ok-parts.parts.items c.in_ok-chunks.chunks.items
-        (standings c.in_ok-writers.writers.items) opened (c.in_ok-names.ensures.listed tells) (c.in_ok-contents.ensures.read tells) c.in_ok-contents.ensures.small c.in_ok-parts.ensures.torn known
-        c.in_ok-parts.ensures.each c.in_ok-parts.ensures.replayed next p s is below tells)
+    resumed_at g.F.Folder.tells c.args.limits.now (g.F.Folder.port c.list_names.new.folder) c.in_ok-names.names.items c.in_ok-contents.contents.items c.in_ok-parts.parts.items c.in_ok-chunks.chunks.items
+    (standings c.in_ok-writers.writers.items) opened (c.in_ok-names.ensures.listed tells) (c.in_ok-contents.ensures.read tells) c.in_ok-contents.ensures.small c.in_ok-parts.ensures.torn known
+    c.in_ok-parts.ensures.each c.in_ok-parts.ensures.replayed next p s is below tells)
 
 pub returns-clause-restartable : goal.returns-clause-restartable
 returns-clause-restartable g c = λ tells.

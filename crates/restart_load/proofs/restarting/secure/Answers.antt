@@ -46,8 +46,8 @@ returns-clause-refused g c =
     let back : take c.take_files.new.files.len (read ++ drop (length read) items) ≡ read = written_back c.take_files.new.files.len items read (names_length read items names) (search rules) in
     IfErr-weaker c.read_files.result _ _
     (λ e h.
-        subst (λ (files : List TakenFile). IsFirstLarge g.F.Folder.tells files e) (sym back)
-        (first_large_same g.F.Folder.tells c.as_mut_slice.result.now read e c.read_files.ensures.same_names c.read_files.ensures.same h))
+    subst (λ (files : List TakenFile). IsFirstLarge g.F.Folder.tells files e) (sym back)
+    (first_large_same g.F.Folder.tells c.as_mut_slice.result.now read e c.read_files.ensures.same_names c.read_files.ensures.same h))
     c.read_files.ensures.refused
 
 pub returns-clause-listed : goal.returns-clause-listed

@@ -1,4 +1,4 @@
-use Rattle.std.proofs.Common.{◌≡◌, ◌++◌, ◌∷◌, true, List, [], rules, subst, ◌∙◌}
+use Rattle.std.proofs.Common.{◌≡◌, ◌++◌, ◌∷◌, List, [], rules, subst, ◌∙◌}
 use Rattle.dir_files.specs.Ports.{Port}
 use Rattle.restart_load.specs.Taking.{AllDurableWith, HasTaken, TakenFile}
 use Rattle.restart_load.proofs.taking.give_files.Goals as goal

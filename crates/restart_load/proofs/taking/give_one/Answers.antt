@@ -1,4 +1,4 @@
-use Rattle.std.proofs.Common.{◌++◌, ◌∷◌, List, [], sym, subst}
+use Rattle.std.proofs.Common.{◌++◌, ◌∷◌, [], sym, subst}
 use Rattle.restart_load.specs.Taking.{AllDurableWith, HasTaken, TakenFile}
 use Rattle.restart_load.proofs.TakingLaws.{given_durable, given_one}
 use Rattle.restart_load.proofs.taking.give_one.Goals as goal

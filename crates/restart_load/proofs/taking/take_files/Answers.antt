@@ -1,6 +1,4 @@
-use Rattle.std.proofs.Common.{◌≡◌, ◌<◌, ◌+◌, ◌∷◌, ◌++◌, [], Result, List, map, take, get_or, rules, subst, sym, ap, ◌∙◌, arith}
-use Rattle.hr_base.specs.declared.name.ChunkName.{ChunkName}
-use Rattle.restart_load.specs.Taking.{HasTaken, TakenFile}
+use Rattle.std.proofs.Common.{rules, ◌∙◌, arith}
 use Rattle.restart_load.proofs.ListedLaws.{all_durable, names_all, names_last, names_more, next_held}
 use Rattle.restart_load.proofs.taking.take_files.Goals as goal
 

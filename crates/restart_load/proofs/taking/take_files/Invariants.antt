@@ -1,4 +1,4 @@
-use Rattle.std.proofs.Common.{◌≡◌, ◌≤◌, true, false, All, length, map, take, vec_capacity}
+use Rattle.std.proofs.Common.{◌≡◌, true, false, All, map, take, vec_capacity}
 use Rattle.dir_files.specs.Faults.{CountsFault}
 use Rattle.dir_files.specs.Files.{IsDurable}
 use Rattle.restart_load.specs.Taking.{HasTaken}

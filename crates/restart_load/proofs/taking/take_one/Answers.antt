@@ -1,7 +1,7 @@
-use Rattle.std.proofs.Common.{◌≡◌, ◌++◌, ◌∷◌, List, [], All, Option, Some, subst, sym, ap, ◌∙◌}
+use Rattle.std.proofs.Common.{◌≡◌, ◌++◌, ◌∷◌, List, [], All, subst, sym, ap, ◌∙◌}
 use Rattle.std.proofs.lemmas.List.Elements.{All-push}
 use Rattle.dir_files.specs.Files.{FileState, IsDurable, synced_file}
-use Rattle.dir_files.specs.Ports.{Gives, Port}
+use Rattle.dir_files.specs.Ports.{Gives}
 use Rattle.restart_load.specs.Taking.{HasTaken, TakenFile}
 use Rattle.restart_load.proofs.TakingLaws.{taken_back, taken_durable, taken_one}
 use Rattle.restart_load.proofs.taking.take_one.Goals as goal

@@ -5,8 +5,8 @@ use Rattle.script_text.specs.declared.line.Mode.TheVariants.{Play}
 use Rattle.script_text.specs.Lines.{IsLine}
 use Rattle.store_drill.specs.declared.step.Step.TheVariants.{Answered, DiskFailed, NoMemory, NoReply, Spent}
 use Rattle.store_drill.specs.Playing.{PlaysAmong}
-use Rattle.store_drill.specs.Writers.{beginning, standings}
-use Rattle.store_drill.proofs.SessionLaws.{SoFar-more, SoFar-none, faults_rose, never_spent, played_no_reply, played_refused, played_unanswered, played_untaken, played_whole}
+use Rattle.restart_load.specs.Writers.{standings}
+use Rattle.store_drill.proofs.SessionLaws.{SoFar-more, SoFar-none, faults_rose, played_no_reply, played_refused, played_spent, played_unanswered, played_untaken, played_whole}
 use Rattle.store_drill.proofs.lines.play_lines.Goals as goal
 
 pub loop-line-init : goal.loop-line-init
@@ -21,25 +21,25 @@ answer-requires-clause-valid g c =
     subst (λ (partitions : ℕ). IsLine Play partitions c.line-item.result) same valid
 
 pub answer-requires-clause-running : goal.answer-requires-clause-running
-answer-requires-clause-running g c = λ p s is. (c.loop-line.invariant.so_far.goes p s is).running
+answer-requires-clause-running g c = λ p s is. (c.loop-line.invariant.so_far.going.runs p s is).running
 
 pub returns-in-NoReply-clause-played : goal.returns-in-NoReply-clause-played
 returns-in-NoReply-clause-played g c =
     let plays : PlaysAmong g.F.Folder.tells NoReply c.line-item.result (standings c.loop-line.writers) (standings c.answer.new.writers) c.answer.new.text.items = c.in-NoReply.ensures in
     played_no_reply c.args.lines.now c.loop-line.line-index c.line-item.result c.loop-line-test.true c.line-item.is g.F.Folder.tells NoReply _ _ _ _ _ _ c.loop-line.invariant.so_far plays
-    plays.plays.replies.1 (λ y a h. plays.plays.account y beginning a h)
+    plays.plays.replies.0 plays.plays.replies.1 plays.plays.replies.2 plays.plays.account
 
 pub returns-in-NoMemory-clause-played : goal.returns-in-NoMemory-clause-played
 returns-in-NoMemory-clause-played g c =
     let plays : PlaysAmong g.F.Folder.tells NoMemory c.line-item.result (standings c.loop-line.writers) (standings c.answer.new.writers) c.answer.new.text.items = c.in-NoMemory.ensures in
     played_unanswered c.args.lines.now c.loop-line.line-index c.line-item.result c.loop-line-test.true c.line-item.is g.F.Folder.tells NoMemory _ _ _ _ _ _ c.loop-line.invariant.so_far plays
-    plays.plays.replies.1 (λ y a h. plays.plays.account y beginning a h)
+    plays.plays.replies.1 plays.plays.account
 
 pub returns-in-DiskFailed-clause-played : goal.returns-in-DiskFailed-clause-played
 returns-in-DiskFailed-clause-played g c =
     let plays : PlaysAmong g.F.Folder.tells DiskFailed c.line-item.result (standings c.loop-line.writers) (standings c.answer.new.writers) c.answer.new.text.items = c.in-DiskFailed.ensures in
     played_refused c.args.lines.now c.loop-line.line-index c.line-item.result c.loop-line-test.true c.line-item.is g.F.Folder.tells DiskFailed _ _ _ _ _ _ c.loop-line.invariant.so_far plays
-    (λ y a h. plays.plays.account y beginning a h)
+    plays.plays.account
 
 pub returns-in-DiskFailed-clause-disk : goal.returns-in-DiskFailed-clause-disk
 returns-in-DiskFailed-clause-disk g c =
@@ -48,19 +48,15 @@ returns-in-DiskFailed-clause-disk g c =
 
 pub returns-in-Spent-clause-played : goal.returns-in-Spent-clause-played
 returns-in-Spent-clause-played g c =
-    absurd (never_spent g.F.Folder.tells c.in-Spent.next c.args.lines.now c.loop-line.line-index c.line-item.result (standings c.loop-line.writers) (standings c.answer.new.writers) c.answer.new.text.items
-    c.loop-line.invariant.so_far.goes c.loop-line-test.true c.requires.few c.in-Spent.ensures)
-
-pub returns-in-Spent-clause-unspent : goal.returns-in-Spent-clause-unspent
-returns-in-Spent-clause-unspent g c = λ next is.
-    never_spent g.F.Folder.tells c.in-Spent.next c.args.lines.now c.loop-line.line-index c.line-item.result (standings c.loop-line.writers) (standings c.answer.new.writers) c.answer.new.text.items
-    c.loop-line.invariant.so_far.goes c.loop-line-test.true c.requires.few c.in-Spent.ensures
+    let plays : PlaysAmong g.F.Folder.tells (Spent c.in-Spent.next) c.line-item.result (standings c.loop-line.writers) (standings c.answer.new.writers) c.answer.new.text.items = c.in-Spent.ensures in
+    played_spent c.args.lines.now c.loop-line.line-index c.line-item.result c.loop-line-test.true c.line-item.is g.F.Folder.tells (Spent c.in-Spent.next) _ _ _ _ _ _ c.loop-line.invariant.so_far plays
+    c.in-Spent.next plays.plays.replies.0 plays.plays.replies.1 plays.plays.account
 
 pub returns-in-Err-clause-played : goal.returns-in-Err-clause-played
 returns-in-Err-clause-played g c =
     let plays : PlaysAmong g.F.Folder.tells Answered c.line-item.result (standings c.loop-line.writers) (standings c.answer.new.writers) c.answer.new.text.items = c.in-Answered.ensures in
     played_untaken c.args.lines.now c.loop-line.line-index c.line-item.result c.loop-line-test.true c.line-item.is g.F.Folder.tells Answered _ _ _ _ _ _ c.loop-line.invariant.so_far plays _
-    plays.plays.replies.0 plays.plays.replies.2 (λ y a h. plays.plays.account y beginning a h) (rw c.as_slice.ensures.value at c.in-Err.ensures.err)
+    plays.plays.replies.0 plays.plays.replies.1 plays.plays.replies.2 plays.plays.replies.3 plays.plays.account (rw c.as_slice.ensures.value at c.in-Err.ensures.err)
 
 pub loop-line-preserved : goal.loop-line-preserved
 loop-line-preserved g c =
@@ -68,7 +64,7 @@ loop-line-preserved g c =
     record {
       so_far =
           SoFar-more c.args.lines.now c.loop-line.line-index c.line-item.result c.loop-line-test.true c.line-item.is g.F.Folder.tells Answered _ _ _ _ _ _ c.loop-line.invariant.so_far plays _
-          plays.plays.replies.0 plays.plays.replies.1 plays.plays.replies.2 (λ y a h. plays.plays.account y beginning a h) (rw c.as_slice.ensures.value at c.in-Ok.ensures.ok);
+          plays.plays.replies.0 plays.plays.replies.1 plays.plays.replies.2 plays.plays.replies.3 plays.plays.account (rw c.as_slice.ensures.value at c.in-Ok.ensures.ok);
       sink_kept = omega arith;
     }
 

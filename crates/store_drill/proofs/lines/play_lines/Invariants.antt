@@ -1,5 +1,5 @@
 use Rattle.std.proofs.Common.{◌≤◌}
-use Rattle.store_drill.specs.Writers.{standings}
+use Rattle.restart_load.specs.Writers.{standings}
 use Rattle.store_drill.proofs.SessionLaws.{SoFar}
 use Rattle.store_drill.proofs.lines.play_lines.Given as goal
 

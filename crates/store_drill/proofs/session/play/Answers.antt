@@ -1,9 +1,36 @@
-use Rattle.store_drill.specs.Sessions.{outside}
-use Rattle.store_drill.proofs.FolderLaws.{ran_after}
+use Rattle.std.proofs.Common.{◌≡◌, ℕ, inl, refl, sym, subst, arith}
+use Rattle.dir_files.specs.Images.{read_of}
+use Rattle.script_text.specs.declared.line.Mode.TheVariants.{Play}
+use Rattle.script_text.specs.Lines.{IsLine}
+use Rattle.std.specs.Prelude.{All}
+use Rattle.crash_law.specs.Restarts.{IsRestartable}
+use Rattle.restart_load.specs.Writers.{standings}
+use Rattle.store_drill.specs.Sessions.{Ran, Session, outside}
+use Rattle.store_drill.proofs.FolderLaws.{begun_resumed, not_begun, ran_after, restartable_since}
 use Rattle.store_drill.proofs.session.play.Goals as goal
 
-pub returns-in-Ok-None-clause-ran : goal.returns-in-Ok-None-clause-ran
-returns-in-Ok-None-clause-ran g c =
-    ran_after _ _ _ (g.F.Folder.port c.args.folder.now) (g.F.Folder.port c.first_name.new.folder) (g.F.Folder.count c.args.folder.now) (g.F.Folder.count c.first_name.new.folder)
-    (g.K.Sink.taken c.args.out.now) (outside g.F.Folder g.K.Sink c.play_vacant.new.folder c.play_vacant.new.out) _
-    c.in-Ok-None.ensures.images (rw c.in-Ok-None.field-0-is at c.in-Ok-None.ensures.none) c.play_vacant.ensures.ran
+pub play_restarted-requires-clause-valid : goal.play_restarted-requires-clause-valid
+play_restarted-requires-clause-valid g c = subst (λ (partitions : ℕ). All (IsLine Play partitions) c.args.lines.now) (sym c.in-Ok.ensures.each) c.requires.valid
+
+pub play_restarted-requires-clause-begun : goal.play_restarted-requires-clause-begun
+play_restarted-requires-clause-begun g c =
+    begun_resumed g.F.Folder.tells c.args.limits.now (g.F.Folder.port c.args.folder.now) (g.F.Folder.port c.restart.new.folder) (standings c.in-Ok.writers.items) c.restart.ensures.images c.in-Ok.ensures.resumed
+
+pub play_restarted-requires-clause-restartable : goal.play_restarted-requires-clause-restartable
+play_restarted-requires-clause-restartable g c = λ y.
+    subst (λ (partitions : ℕ). IsRestartable (read_of (g.F.Folder.port c.restart.new.folder)) partitions) (sym c.in-Ok.ensures.each)
+    (restartable_since _ _ c.args.limits.now.partitions (c.restart.ensures.images y) (c.in-Ok.ensures.restartable y))
+
+pub returns-in-Ok-clause-ran : goal.returns-in-Ok-clause-ran
+returns-in-Ok-clause-ran g c =
+    ran_after g.F.Folder.tells c.args.limits.now.partitions c.args.lines.now (g.F.Folder.port c.args.folder.now) (g.F.Folder.port c.restart.new.folder) _ (g.F.Folder.count c.restart.new.folder)
+    _ (outside g.F.Folder g.K.Sink c.play_restarted.new.folder c.play_restarted.new.out) c.play_restarted.result c.restart.ensures.images
+    (subst (λ (partitions : ℕ). Session g.F.Folder.tells partitions c.args.lines.now (outside g.F.Folder g.K.Sink c.restart.new.folder c.args.out.now)
+    (outside g.F.Folder g.K.Sink c.play_restarted.new.folder c.play_restarted.new.out) c.play_restarted.result) c.in-Ok.ensures.each c.play_restarted.ensures.session)
+
+pub returns-in-Err-clause-ran : goal.returns-in-Err-clause-ran
+returns-in-Err-clause-ran g c =
+    inl (not_begun g.F.Folder.tells c.args.limits.now.partitions _ _ c.in-Err.refusal _ c.from.ensures refl c.in-Err.ensures.printable c.in-Err.ensures.refused c.restart.ensures.images)
+
+pub returns-in-Ok-clause-disk : goal.returns-in-Ok-clause-disk
+returns-in-Ok-clause-disk g c = λ is. omega (arith, c.restart.ensures.kept, c.play_restarted.ensures.disk is)

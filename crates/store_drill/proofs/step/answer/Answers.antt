@@ -6,7 +6,7 @@ use Rattle.script_text.specs.declared.line.Mode.TheVariants.{Play}
 use Rattle.script_text.specs.Lines.{partition_of}
 use Rattle.partition_writer.specs.Standing.{Standing}
 use Rattle.partition_writer.specs.WriterViews.{standing}
-use Rattle.store_drill.specs.Writers.{standings}
+use Rattle.restart_load.specs.Writers.{standings}
 use Rattle.store_drill.proofs.StepLaws.{fits_record, of_partition}
 use Rattle.store_drill.proofs.step.answer.Goals as goal
 

@@ -6,11 +6,13 @@ use Rattle.hr_base.specs.Records.{record_length}
 use Rattle.script_text.specs.declared.line.Line.TheVariants.{Put}
 use Rattle.script_text.specs.Replies.{old_text}
 use Rattle.partition_writer.specs.Answers.{put_record}
-use Rattle.partition_writer.specs.Standing.{Standing}
+use Rattle.partition_writer.specs.Standing.{Standing, spent_by}
+use Rattle.record_format.specs.Spelling.{spelling}
+use Rattle.record_format.proofs.HeaderLaws.{spelling_length}
 use Rattle.partition_writer.specs.WriterViews.{standing}
 use Rattle.store_drill.specs.declared.step.Step.{Step}
 use Rattle.store_drill.specs.Playing.{Plays}
-use Rattle.store_drill.proofs.StepLaws.{Done, done_goes, done_maps, done_partition, is_spent, plays_answered, plays_refused}
+use Rattle.store_drill.proofs.StepLaws.{Done, done_counts, done_goes, done_maps, done_partition, none_unless, plays_answered, plays_refused, spent_limit}
 use Rattle.store_drill.proofs.step.answer_put.Goals as goal
 
 pub returns-in-Ok-None : goal.returns-in-Ok-None
@@ -19,10 +21,12 @@ returns-in-Ok-None g c =
     let t : Standing = standing c.put.new.self in
     let r = put_record s.next c.args.prefix c.args.key.now c.args.value.now in
     let before : None ≡ get s.maps (key_at c.args.prefix c.args.key.now) = rw c.in-Ok-None.field-0-is at c.in-Ok-None.ensures.before in
-    let done : Done s t r = inl c.in-Ok-None.ensures.written in
+    let unspent : spent_by s Value (length (spelling r)) ≡ None =
+    subst (λ (len : ℕ). spent_by s Value len ≡ None) (sym (spelling_length r)) (none_unless _ (λ next is. let spent = (c.in-Ok-None.ensures.spent next).1 (c.requires.running, is) in cc)) in
+    let done : Done s t r = inl (refl, unspent, c.in-Ok-None.ensures.written) in
     plays_answered g.F.Folder.tells (Put c.args.p c.args.prefix c.args.key.now c.args.value.now) s t c.reply.new.text.items c.reply.result c.reply.ensures.only
     (λ e. c.reply.ensures.text e ∙ ap (λ (first : List ℕ). first ++ old_text c.args.p.0 None) c.requires.cleared ∙ ap (λ (o : Option Content). old_text c.args.p.0 o) before)
-    (done_maps s t r done) (done_goes s t r c.in-Ok-None.ensures.disk.ok done) (done_partition s t r done) c.in-Ok-None.ensures.account
+    (done_maps s t r done) (done_goes s t r c.in-Ok-None.ensures.disk.ok done) (done_counts s t r (Put c.args.p c.args.prefix c.args.key.now c.args.value.now) refl done) (done_partition s t r done) c.in-Ok-None.ensures.account
 
 pub returns-in-Ok-Some : goal.returns-in-Ok-Some
 returns-in-Ok-Some g c =
@@ -30,11 +34,13 @@ returns-in-Ok-Some g c =
     let t : Standing = standing c.put.new.self in
     let r = put_record s.next c.args.prefix c.args.key.now c.args.value.now in
     let before : Some (content_of c.in-Ok-Some.before) ≡ get s.maps (key_at c.args.prefix c.args.key.now) = rw c.in-Ok-Some.field-0-is at c.in-Ok-Some.ensures.before in
-    let done : Done s t r = inl c.in-Ok-Some.ensures.written in
+    let unspent : spent_by s Value (length (spelling r)) ≡ None =
+    subst (λ (len : ℕ). spent_by s Value len ≡ None) (sym (spelling_length r)) (none_unless _ (λ next is. let spent = (c.in-Ok-Some.ensures.spent next).1 (c.requires.running, is) in cc)) in
+    let done : Done s t r = inl (refl, unspent, c.in-Ok-Some.ensures.written) in
     plays_answered g.F.Folder.tells (Put c.args.p c.args.prefix c.args.key.now c.args.value.now) s t c.reply-in-Ok-Some.new.text.items c.reply-in-Ok-Some.result c.reply-in-Ok-Some.ensures.only
     (λ e. c.reply-in-Ok-Some.ensures.text e ∙ ap (λ (first : List ℕ). first ++ old_text c.args.p.0 (Some (content_of c.as_slice.result.now))) c.requires.cleared
     ∙ ap (λ (value : List ℕ). old_text c.args.p.0 (Some (content_of value))) c.as_slice.ensures ∙ ap (λ (o : Option Content). old_text c.args.p.0 o) before)
-    (done_maps s t r done) (done_goes s t r c.in-Ok-Some.ensures.disk.ok done) (done_partition s t r done) c.in-Ok-Some.ensures.account
+    (done_maps s t r done) (done_goes s t r c.in-Ok-Some.ensures.disk.ok done) (done_counts s t r (Put c.args.p c.args.prefix c.args.key.now c.args.value.now) refl done) (done_partition s t r done) c.in-Ok-Some.ensures.account
 
 pub returns-in-Err : goal.returns-in-Err
 returns-in-Err g c =
@@ -43,4 +49,4 @@ returns-in-Err g c =
     subst (λ (step : Step). Plays g.F.Folder.tells step line s (standing c.put.new.self) c.args.text.now.items) (sym c.refused.ensures)
     (plays_refused _ g.F.Folder.tells line s (standing c.put.new.self) c.args.text.now.items (put_record s.next c.args.prefix c.args.key.now c.args.value.now) c.in-Err.refusal
     c.in-Err.ensures.written c.in-Err.ensures.disk.memory c.in-Err.ensures.disk.cause (λ at is. (c.in-Err.ensures.halted at).0 is) c.requires.running
-    (λ next is. is_spent s Value (record_length Value (length c.args.key.now) (length c.args.value.now)) next ((c.in-Err.ensures.spent next).0 is).1) (λ a. refl) c.in-Err.ensures.account)
+    (λ next is. record { written = refl; limit = spent_limit s Value (record_length Value (length c.args.key.now) (length c.args.value.now)) next ((c.in-Err.ensures.spent next).0 is).1 }) (λ a. refl) c.in-Err.ensures.account)

@@ -1,4 +1,4 @@
-use Rattle.std.proofs.Common.{◌≡◌, ℕ, List, ◌++◌, length, None, Some, Option, is_some, refl, sym, subst, ap, inl, inr, ◌∙◌}
+use Rattle.std.proofs.Common.{◌≡◌, ℕ, List, ◌++◌, length, None, Some, Option, IsSome, is_some, refl, sym, subst, ap, inl, inr, ◌∙◌}
 use Rattle.std.specs.FinMap.{get}
 use Rattle.std.proofs.lemmas.Option.{none-some}
 use Rattle.hr_base.specs.declared.name.Class.TheVariants.{Tomb}
@@ -7,11 +7,13 @@ use Rattle.hr_base.specs.Records.{record_length}
 use Rattle.script_text.specs.declared.line.Line.TheVariants.{Remove}
 use Rattle.script_text.specs.Replies.{old_text}
 use Rattle.partition_writer.specs.Answers.{remove_record}
-use Rattle.partition_writer.specs.Standing.{Standing}
+use Rattle.partition_writer.specs.Standing.{Standing, spent_by}
+use Rattle.record_format.specs.Spelling.{spelling}
+use Rattle.record_format.proofs.HeaderLaws.{spelling_length}
 use Rattle.partition_writer.specs.WriterViews.{standing}
 use Rattle.store_drill.specs.declared.step.Step.{Step}
 use Rattle.store_drill.specs.Playing.{Plays}
-use Rattle.store_drill.proofs.StepLaws.{Done, done_goes, done_maps, done_partition, is_spent, plays_answered, plays_refused, some_unless}
+use Rattle.store_drill.proofs.StepLaws.{Done, done_counts, done_goes, done_maps, done_partition, none_unless, plays_answered, plays_refused, some_unless, spent_limit}
 use Rattle.store_drill.proofs.step.answer_remove.Goals as goal
 
 -- of an absent key nothing was written
@@ -25,7 +27,7 @@ returns-in-Ok-None g c =
     let done : Done s t r = inr (ap is_some none, ap (λ writer. standing writer) (c.in-Ok-None.ensures.absent none c.requires.running).1) in
     plays_answered g.F.Folder.tells (Remove c.args.p c.args.prefix c.args.key.now) s t c.reply.new.text.items c.reply.result c.reply.ensures.only
     (λ e. c.reply.ensures.text e ∙ ap (λ (before : List ℕ). before ++ old_text c.args.p.0 None) c.requires.cleared ∙ ap (λ (o : Option Content). old_text c.args.p.0 o) (sym none))
-    (done_maps s t r done) (done_goes s t r (c.in-Ok-None.ensures.disk.ok) done) (done_partition s t r done) c.in-Ok-None.ensures.account
+    (done_maps s t r done) (done_goes s t r c.in-Ok-None.ensures.disk.ok done) (done_counts s t r (Remove c.args.p c.args.prefix c.args.key.now) refl done) (done_partition s t r done) c.in-Ok-None.ensures.account
 
 pub returns-in-Ok-Some : goal.returns-in-Ok-Some
 returns-in-Ok-Some g c =
@@ -34,11 +36,14 @@ returns-in-Ok-Some g c =
     let key = key_at c.args.prefix c.args.key.now in
     let r = remove_record s.next c.args.prefix c.args.key.now in
     let before : Some (content_of c.in-Ok-Some.before) ≡ get s.maps key = rw c.in-Ok-Some.field-0-is at c.in-Ok-Some.ensures.before in
-    let done : Done s t r = inl (c.in-Ok-Some.ensures.written (some_unless (get s.maps key) (λ none. none-some (content_of c.in-Ok-Some.before) (sym (before ∙ none))))) in
+    let there : IsSome (get s.maps key) = some_unless (get s.maps key) (λ none. none-some (content_of c.in-Ok-Some.before) (sym (before ∙ none))) in
+    let unspent : spent_by s Tomb (length (spelling r)) ≡ None =
+    subst (λ (len : ℕ). spent_by s Tomb len ≡ None) (sym (spelling_length r)) (none_unless _ (λ next is. let spent = (c.in-Ok-Some.ensures.spent next).1 (c.requires.running, there, is) in cc)) in
+    let done : Done s t r = inl (there, unspent, c.in-Ok-Some.ensures.written there) in
     plays_answered g.F.Folder.tells (Remove c.args.p c.args.prefix c.args.key.now) s t c.reply-in-Ok-Some.new.text.items c.reply-in-Ok-Some.result c.reply-in-Ok-Some.ensures.only
     (λ e. c.reply-in-Ok-Some.ensures.text e ∙ ap (λ (first : List ℕ). first ++ old_text c.args.p.0 (Some (content_of c.as_slice.result.now))) c.requires.cleared
     ∙ ap (λ (value : List ℕ). old_text c.args.p.0 (Some (content_of value))) c.as_slice.ensures ∙ ap (λ (o : Option Content). old_text c.args.p.0 o) before)
-    (done_maps s t r done) (done_goes s t r c.in-Ok-Some.ensures.disk.ok done) (done_partition s t r done) c.in-Ok-Some.ensures.account
+    (done_maps s t r done) (done_goes s t r c.in-Ok-Some.ensures.disk.ok done) (done_counts s t r (Remove c.args.p c.args.prefix c.args.key.now) refl done) (done_partition s t r done) c.in-Ok-Some.ensures.account
 
 pub returns-in-Err : goal.returns-in-Err
 returns-in-Err g c =
@@ -48,4 +53,7 @@ returns-in-Err g c =
     (plays_refused _ g.F.Folder.tells line s (standing c.remove.new.self) c.args.text.now.items (remove_record s.next c.args.prefix c.args.key.now) c.in-Err.refusal
     (c.in-Err.ensures.written (some_unless (get s.maps (key_at c.args.prefix c.args.key.now)) (λ none. let h = (c.in-Err.ensures.absent none c.requires.running).0 in cc)))
     c.in-Err.ensures.disk.memory c.in-Err.ensures.disk.cause (λ at is. (c.in-Err.ensures.halted at).0 is) c.requires.running
-    (λ next is. is_spent s Tomb (record_length Tomb (length c.args.key.now) 0) next ((c.in-Err.ensures.spent next).0 is).2) (λ a. refl) c.in-Err.ensures.account)
+    (λ next is.
+    let spent = (c.in-Err.ensures.spent next).0 is in
+    record { written = spent.1; limit = spent_limit s Tomb (record_length Tomb (length c.args.key.now) 0) next spent.2 })
+    (λ a. refl) c.in-Err.ensures.account)
