@@ -12,7 +12,7 @@ use std::process::Abort;
 use std::test::Fail;
 
 /// How many scripts are drawn.
-const SCRIPTS: u64 = 6;
+const SCRIPTS: u64 = 300;
 
 const PARTITIONS: u8 = 2;
 
