@@ -1,0 +1,10 @@
+pub mod TakingLaws
+pub mod ListedLaws
+pub mod NameLaws
+pub mod NumberLaws
+pub mod OpeningLaws
+pub mod ReadingLaws
+pub mod FolderLaws
+pub mod GatherLaws
+pub mod LoadLaws
+pub mod ResumedLaws

@@ -1,0 +1,10 @@
+pub mod Refusals
+pub mod Writers
+pub mod Contents
+pub mod Loading
+pub mod Taking
+pub mod Reading
+pub mod Numbers
+pub mod Opening
+pub mod Ends
+pub mod Gathering
