@@ -67,7 +67,7 @@ returns-clause-complete g c y command meaning can source sink folder =
     ])
     (λ e. folder (c.run-outcome.ensures.disk (disk_told _ _ _ _ heard e)))
     (λ e. let wrong = means_this _ (λ x. WasUnloadable (partitions_of x) _ _ _) command meaning (unloadable_told _ _ _ _ _ _ _ because heard y e) in
-    not_refused _ _ (begins_restartable command _ _ can) wrong.refusal wrong.first wrong.content)
+      not_refused _ _ (begins_restartable command _ _ can) wrong.refusal wrong.first wrong.content)
     (λ e. begins_unspent command _ _ _ _ can (means_this _ (λ x. WasSpentBy x _ _ _ _) command meaning (number_told _ _ _ _ _ _ _ because heard y e)))
 
 pub returns-clause-loaded : goal.returns-clause-loaded
