@@ -233,8 +233,8 @@ fn check_scripts(rt: &impl Abort, alloc: Global, from: u64, to: u64) -> Result<C
 #[test]
 fn drawn_scripts_survive_crashes(rt: HostRuntime) -> Result<(), Fail> {
     let counts = check_scripts(&rt, rt.alloc(), 0, SCRIPTS)?;
-    assert_eq!(&rt; counts.crashes, 42);
-    assert!(&rt; counts.lost > 5);
-    assert!(&rt; counts.kept > 5);
+    assert_eq!(&rt; counts.crashes, 2_100);
+    assert!(&rt; counts.lost > 300);
+    assert!(&rt; counts.kept > 300);
     Ok(())
 }
