@@ -163,11 +163,15 @@ pub(crate) fn append_text(out: &mut Vec<u8>, bytes: &[u8]) -> Result<(), AllocEr
     Ok(())
 }
 
-// Whether each byte stands for itself.
+// Whether each byte stands for itself. It does not end early, so that many bytes are looked at in one step.
 fn are_plain(bytes: &[u8]) -> bool
     ensures { IsTrue result ↔ All (λ b. IsTrue (is_plain b)) bytes.now }
 {
-    bytes.iter().all(|b| is_plain(*b))
+    let mut plain = true;
+    for byte in bytes {
+        plain &= is_plain(*byte);
+    }
+    plain
 }
 
 // Appends the text of one byte. What was there before stays.
