@@ -76,7 +76,7 @@ const VALUE_X: Stored = Stored {
 };
 
 /// Runs over an empty folder.
-const NEW: [Row; 14] = [
+const NEW: [Row; 17] = [
     Row {
         name: "the first script",
         steps: &[
@@ -153,6 +153,40 @@ const NEW: [Row; 14] = [
             name: V1,
             pieces: &[V(1, 1, b"k", b"a"), V(2, 1, b"k", b"b")],
         }]),
+        ..ROW
+    },
+    // A restart makes all durable that is there, also before a session without a line.
+    Row {
+        name: "a dump makes a put durable",
+        steps: &[
+            Play(b"0 put 1 k a\n", b"0 none\n"),
+            Dump(b"0 1 k a\n"),
+            Crash(Pick::Least),
+            Dump(b"0 1 k a\n"),
+        ],
+        ..ROW
+    },
+    Row {
+        name: "an empty session makes a removal durable",
+        steps: &[
+            Play(
+                b"0 put 1 k a\n0 put 2 l b\n0 remove 1 k\n",
+                b"0 none\n0 none\n0 was a\n",
+            ),
+            Play(b"", b""),
+            Crash(Pick::Least),
+            Dump(b"0 2 l b\n"),
+        ],
+        ..ROW
+    },
+    Row {
+        name: "a put without a sync is lost",
+        steps: &[
+            Play(b"0 put 1 k a\n", b"0 none\n"),
+            Crash(Pick::Least),
+            Dump(b""),
+        ],
+        left: Some(&[]),
         ..ROW
     },
     // A put and its sync are four calls of the port: a creation, an append, a file sync and a directory sync.

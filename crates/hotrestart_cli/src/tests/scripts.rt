@@ -310,9 +310,9 @@ fn check_scripts(rt: &impl Abort, alloc: Global) -> Result<Counts, Fail> {
 fn drawn_scripts_survive_crashes(rt: HostRuntime) -> Result<(), Fail> {
     let counts = check_scripts(&rt, rt.alloc())?;
     assert_eq!(&rt; counts.crashes, 2_100);
-    assert!(&rt; counts.lost > 300, "{} lost", counts.lost);
-    assert!(&rt; counts.kept > 300, "{} kept", counts.kept);
-    assert!(&rt; counts.full > 30000, "{} full {} kept {} lost", counts.full, counts.kept, counts.lost);
+    assert!(&rt; counts.lost > 1_000, "{} lost", counts.lost);
+    assert!(&rt; counts.kept > 1_000, "{} kept", counts.kept);
+    assert!(&rt; counts.full > 300, "{} full", counts.full);
     Ok(())
 }
 
@@ -333,6 +333,7 @@ fn stopped_sessions_survive_crashes(rt: HostRuntime) -> Result<(), Fail> {
         }
     }
     assert_eq!(&rt; stopped.saturating_add(whole), 2_100);
-    assert!(&rt; stopped > 70000, "{stopped} stopped");
+    assert!(&rt; stopped > 700, "{stopped} stopped");
+    assert!(&rt; whole > 700, "{whole} not stopped");
     Ok(())
 }
