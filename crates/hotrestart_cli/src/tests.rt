@@ -1,43 +1,43 @@
 //! The program over memory: what it prints, and what stands in the folder then.
 
+mod disk;
 mod faults;
+mod files;
 mod long;
 mod maps;
-mod recording;
+mod real;
+mod restarts;
 mod runs;
+mod scripts;
 mod stops;
 
-use crate::serve::serve;
-use hr_base::{ChunkName, ChunkNo, Kind, Partition};
+use disk::Disk;
 use hr_edges::{MemSink, MemSource};
-use mem_folder::{FaultPlan, MemFolder};
-use recording::{Call, Recording};
+use mem_folder::FaultPlan;
 use std::alloc::Global;
 use std::process::Abort;
 use std::test::Fail;
 
-/// The first chunk of values.
-const VALUES: ChunkName = ChunkName {
-    partition: Partition(0),
-    kind: Kind::V,
-    number: ChunkNo(1),
-};
-
-/// The number of the folder's root among the ports, for plans and calls.
-const ROOT: usize = 0;
-
-/// The number of the port that partition 0 is written through.
-const FORKED: usize = 1;
-
 /// No call fails from this one on.
 const NEVER: u64 = u64::MAX;
 
-/// A plan of faults from a call on.
+/// How many bytes may be printed.
+const ROOM: usize = 262_144;
+
+/// A plan by which all calls fail from this one on.
 fn plan_from(alloc: Global, from: u64) -> FaultPlan {
     FaultPlan {
         calls: Vec::new(alloc),
         from,
     }
+}
+
+/// A plan by which this call fails, and no other.
+fn plan_at(alloc: Global, call: u64) -> Result<FaultPlan, Fail> {
+    Ok(FaultPlan {
+        calls: vec![in alloc; call]?,
+        from: NEVER,
+    })
 }
 
 /// The words of a text, parted by single spaces.
@@ -49,56 +49,50 @@ fn words(alloc: Global, text: &str) -> Result<Vec<String>, Fail> {
     Ok(words)
 }
 
-/// What a run left: its status, what it printed to, and its folder.
+/// What a run told: its status, and what it printed.
 #[derive(Drop)]
-struct Left {
+struct Told {
     status: u8,
     out: MemSink,
-    folder: Recording<MemFolder>,
 }
 
-impl Left {
-    /// What a file holds.
-    fn bytes(&self, name: ChunkName) -> Option<&[u8]> {
-        self.folder.inner().bytes(name)
+impl Told {
+    /// What was printed.
+    fn printed(&self) -> &[u8] {
+        self.out.taken()
     }
 
-    /// Compares the status and what was printed.
+    /// Compares both.
     fn expect(&self, rt: &impl Abort, name: &str, status: u8, printed: &[u8]) {
+        assert_eq!(rt; self.printed(), printed, "{name}");
         assert_eq!(rt; self.status, status, "{name}");
-        assert_eq!(rt; self.out.taken(), printed, "{name}");
-    }
-
-    /// Compares the calls of the folder and of the first port that it gave.
-    fn expect_calls(&self, rt: &impl Abort, name: &str, root: &[Call], forked: &[Call]) {
-        assert_eq!(rt; self.folder.calls(ROOT), root, "{name}");
-        assert_eq!(rt; self.folder.calls(FORKED), forked, "{name}");
     }
 }
 
-/// Runs the program over an empty folder that follows these plans.
-fn run_over(
+/// Runs the program, from this source to this sink. No file is lent afterwards.
+fn run_between(
     rt: &impl Abort,
     alloc: Global,
+    disk: &mut Disk,
     text: &str,
-    plans: Vec<FaultPlan>,
     mut input: MemSource,
     mut out: MemSink,
-) -> Result<Left, Fail> {
+) -> Result<Told, Fail> {
     let words = words(alloc, text)?;
-    let mut folder = Recording::new(alloc, MemFolder::empty(alloc, plans));
-    let status = serve(alloc, words.as_slice(), &mut folder, &mut input, &mut out);
-    assert!(rt; !folder.is_incomplete());
-    Ok(Left {
-        status,
-        out,
-        folder,
-    })
+    let status = disk.serve(alloc, words.as_slice(), &mut input, &mut out);
+    assert!(rt; !disk.lends());
+    Ok(Told { status, out })
 }
 
-/// Runs the program over an empty folder without faults.
-fn run(rt: &impl Abort, alloc: Global, text: &str, script: &[u8]) -> Result<Left, Fail> {
+/// Runs the program over a script.
+fn run(
+    rt: &impl Abort,
+    alloc: Global,
+    disk: &mut Disk,
+    text: &str,
+    script: &[u8],
+) -> Result<Told, Fail> {
     let input = MemSource::new(script.to_vec(alloc)?, Vec::new(alloc));
-    let out = MemSink::new(alloc, 4096, Vec::new(alloc))?;
-    run_over(rt, alloc, text, Vec::new(alloc), input, out)
+    let out = MemSink::new(alloc, ROOM, Vec::new(alloc))?;
+    run_between(rt, alloc, disk, text, input, out)
 }

@@ -1,7 +1,8 @@
 //! One short script with a fault of the folder, the source or the sink.
 
-use super::recording::Call;
-use super::{FORKED, NEVER, ROOT, VALUES, plan_from, run_over};
+use super::disk::Disk;
+use super::files::{V1, name_of};
+use super::{NEVER, plan_from, run_between};
 use hr_edges::{MemSink, MemSource};
 use std::alloc::Global;
 use std::process::Abort;
@@ -12,9 +13,9 @@ const SCRIPT: &[u8] = b"0 put 5 k1 v1\n0 sync\n0 get 5 k1\n";
 /// What is stored of the script.
 const RECORD: &[u8] = b"\0\0\0\0\0\0\0\x01\0\0\0\0\0\0\0\x05\0\0\0\x02\0\0\0\x02k1v1";
 
-/// A run of the script with a fault: from which call on the folder fails, and the first port that it gives; the first
-/// call at which the source or the sink fails; the most bytes that the sink takes in a write, and those that it has
-/// room for. What is stored is so many first bytes of its record.
+/// A run of the script over an empty folder with a fault: from which call on the folder's root fails, and the first port
+/// that it gives; the first call at which the source or the sink fails; the most bytes that the sink takes in a write, and
+/// those that it has room for. What is stored is so many first bytes of its record. So many calls of the folder failed.
 #[derive(Clone, Copy)]
 struct Faulty {
     name: &'static str,
@@ -27,6 +28,7 @@ struct Faulty {
     status: u8,
     printed: &'static [u8],
     stored: Option<usize>,
+    faults: u64,
 }
 
 const SOUND: Faulty = Faulty {
@@ -40,9 +42,10 @@ const SOUND: Faulty = Faulty {
     status: 0,
     printed: b"0 none\n0 synced\n0 is v1\n",
     stored: Some(28),
+    faults: 0,
 };
 
-const FAULTY: [Faulty; 11] = [
+const FAULTY: [Faulty; 15] = [
     SOUND,
     // How finely the bytes come and go changes nothing.
     Faulty {
@@ -50,10 +53,18 @@ const FAULTY: [Faulty; 11] = [
         most: 1,
         ..SOUND
     },
-    // The first read fails.
     Faulty {
         name: "the first read fails",
         source: 1,
+        status: 3,
+        printed: b"refused input\n",
+        stored: None,
+        ..SOUND
+    },
+    // Each byte of the script is read before the folder is asked.
+    Faulty {
+        name: "the last read fails",
+        source: 33,
         status: 3,
         printed: b"refused input\n",
         stored: None,
@@ -82,11 +93,27 @@ const FAULTY: [Faulty; 11] = [
         ..SOUND
     },
     Faulty {
-        name: "the folder fails",
+        name: "the folder fails in its directory sync",
         folder: 1,
         status: 5,
         printed: b"refused disk\n",
         stored: None,
+        faults: 1,
+        ..SOUND
+    },
+    Faulty {
+        name: "the folder fails in its listing",
+        folder: 2,
+        status: 5,
+        printed: b"refused disk\n",
+        stored: None,
+        faults: 1,
+        ..SOUND
+    },
+    // An empty folder is asked no more than that.
+    Faulty {
+        name: "the folder would fail in a third call",
+        folder: 3,
         ..SOUND
     },
     Faulty {
@@ -95,6 +122,7 @@ const FAULTY: [Faulty; 11] = [
         status: 5,
         printed: b"refused disk\n",
         stored: None,
+        faults: 1,
         ..SOUND
     },
     Faulty {
@@ -103,6 +131,15 @@ const FAULTY: [Faulty; 11] = [
         status: 5,
         printed: b"refused disk\n",
         stored: Some(14),
+        faults: 1,
+        ..SOUND
+    },
+    Faulty {
+        name: "the port fails in its file sync",
+        port: 3,
+        status: 5,
+        printed: b"0 none\nrefused disk\n",
+        faults: 1,
         ..SOUND
     },
     Faulty {
@@ -110,6 +147,7 @@ const FAULTY: [Faulty; 11] = [
         port: 4,
         status: 5,
         printed: b"0 none\nrefused disk\n",
+        faults: 1,
         ..SOUND
     },
     // The disk fails, and then the sink before the last line is whole.
@@ -119,6 +157,7 @@ const FAULTY: [Faulty; 11] = [
         room: 10,
         status: 4,
         printed: b"0 none\nref",
+        faults: 1,
         ..SOUND
     },
 ];
@@ -126,12 +165,14 @@ const FAULTY: [Faulty; 11] = [
 /// Runs the script with a fault, one byte a read, and compares.
 fn check_faulty(rt: &impl Abort, alloc: Global, run: &Faulty) -> Result<(), Fail> {
     let plans = vec![in alloc; plan_from(alloc, run.folder), plan_from(alloc, run.port)]?;
+    let mut disk = Disk::empty(alloc, plans);
     let input = MemSource::in_steps(SCRIPT.to_vec(alloc)?, [run.source].to_vec(alloc)?, 1);
     let out = MemSink::in_steps(alloc, run.room, [run.sink].to_vec(alloc)?, run.most)?;
-    let left = run_over(rt, alloc, "DIR play", plans, input, out)?;
-    left.expect(rt, run.name, run.status, run.printed);
-    let stored = left.bytes(VALUES);
+    let told = run_between(rt, alloc, &mut disk, "DIR play", input, out)?;
     let name = run.name;
+    told.expect(rt, name, run.status, run.printed);
+    assert_eq!(rt; disk.faults(), run.faults, "{name}");
+    let stored = disk.bytes(name_of(V1)?);
     assert_eq!(rt; stored.map(|bytes| bytes.len()), run.stored, "{name}");
     assert!(rt; RECORD.starts_with(stored.unwrap_or(b"")), "{name}");
     Ok(())
@@ -142,28 +183,5 @@ fn faults_are_told_by_the_table(rt: HostRuntime) -> Result<(), Fail> {
     for run in &FAULTY {
         check_faulty(&rt, rt.alloc(), run)?;
     }
-    Ok(())
-}
-
-/// The port that writes fails at its directory sync: the put before was answered and its record is whole, but the sync
-/// is not answered, since a crash may still take the file's name.
-#[test]
-fn a_failed_directory_sync_is_no_sync(rt: HostRuntime) -> Result<(), Fail> {
-    let alloc = rt.alloc();
-    let plans = vec![in alloc; plan_from(alloc, NEVER), plan_from(alloc, 4)]?;
-    let input = MemSource::new(b"0 put 5 k1 v1\n0 sync\n".to_vec(alloc)?, Vec::new(alloc));
-    let out = MemSink::new(alloc, 100, Vec::new(alloc))?;
-    let left = run_over(&rt, alloc, "DIR play", plans, input, out)?;
-    let name = "a failed directory sync";
-    left.expect(&rt, name, 5, b"0 none\nrefused disk\n");
-    assert_eq!(&rt; left.bytes(VALUES), Some(RECORD));
-    left.expect_calls(
-        &rt,
-        name,
-        &[Call::SyncNames, Call::Names],
-        &[Call::Create, Call::Append, Call::SyncFile, Call::SyncNames],
-    );
-    assert_eq!(&rt; left.folder.calls(ROOT).len(), 2);
-    assert_eq!(&rt; left.folder.calls(FORKED).len(), 4);
     Ok(())
 }

@@ -1,14 +1,15 @@
 //! Scripts at the limits of a value and of a script, and past them.
 
-use super::recording::Call;
-use super::{VALUES, plan_from, run_over};
+use super::disk::Disk;
+use super::files::{V1, name_of};
+use super::{plan_from, run, run_between};
 use hr_edges::{MemSink, MemSource};
 use std::alloc::Global;
 use std::process::Abort;
 use std::test::Fail;
 
 /// A script that is too long to be written here, over a folder whose every call fails: it has some text, then one byte
-/// so many times, and no more. What is printed, and which calls the folder's root was asked for.
+/// so many times, and no more. What is printed, and how many calls of the folder failed, which are all that were made.
 #[derive(Clone, Copy)]
 struct Long {
     name: &'static str,
@@ -17,7 +18,7 @@ struct Long {
     times: usize,
     status: u8,
     printed: &'static [u8],
-    calls: &'static [Call],
+    calls: u64,
 }
 
 const LONG: [Long; 4] = [
@@ -29,7 +30,7 @@ const LONG: [Long; 4] = [
         times: 1_048_576,
         status: 5,
         printed: b"refused disk\n",
-        calls: &[Call::SyncNames],
+        calls: 1,
     },
     // A value of one letter more, in the second line: the first line is not played either.
     Long {
@@ -39,7 +40,7 @@ const LONG: [Long; 4] = [
         times: 1_048_577,
         status: 2,
         printed: b"refused line 2\n",
-        calls: &[],
+        calls: 0,
     },
     // As many bytes as a script may have are read, and their first line is refused.
     Long {
@@ -49,7 +50,7 @@ const LONG: [Long; 4] = [
         times: 67_108_864,
         status: 2,
         printed: b"refused line 1\n",
-        calls: &[],
+        calls: 0,
     },
     // One byte more, and no line is looked at.
     Long {
@@ -59,29 +60,68 @@ const LONG: [Long; 4] = [
         times: 67_108_865,
         status: 2,
         printed: b"refused too long\n",
-        calls: &[],
+        calls: 0,
     },
 ];
 
+/// A text with a byte so many times behind it.
+fn long_text(alloc: Global, text: &[u8], byte: u8, times: usize) -> Result<Vec<u8>, Fail> {
+    let mut script = text.to_vec(alloc)?;
+    script.resize(text.len().saturating_add(times), byte)?;
+    Ok(script)
+}
+
 /// Runs a long script, and compares.
-fn check_long(rt: &impl Abort, alloc: Global, run: &Long) -> Result<(), Fail> {
-    let mut script = run.text.to_vec(alloc)?;
-    script.resize(run.text.len().saturating_add(run.times), run.byte)?;
+fn check_long(rt: &impl Abort, alloc: Global, long: &Long) -> Result<(), Fail> {
+    let script = long_text(alloc, long.text, long.byte, long.times)?;
     let plans = vec![in alloc; plan_from(alloc, 1), plan_from(alloc, 1)]?;
-    let input = MemSource::new(script, Vec::new(alloc));
-    let out = MemSink::new(alloc, 100, Vec::new(alloc))?;
-    let left = run_over(rt, alloc, "DIR play", plans, input, out)?;
-    left.expect(rt, run.name, run.status, run.printed);
-    let name = run.name;
-    assert!(rt; left.bytes(VALUES).is_none(), "{name}");
-    left.expect_calls(rt, run.name, run.calls, &[]);
+    let mut disk = Disk::empty(alloc, plans);
+    let told = run(rt, alloc, &mut disk, "DIR play", script.as_slice())?;
+    let name = long.name;
+    told.expect(rt, name, long.status, long.printed);
+    assert_eq!(rt; disk.faults(), long.calls, "{name}");
+    assert!(rt; disk.bytes(name_of(V1)?).is_none(), "{name}");
     Ok(())
 }
 
 #[test]
 fn long_scripts_are_told_by_the_table(rt: HostRuntime) -> Result<(), Fail> {
-    for run in &LONG {
-        check_long(&rt, rt.alloc(), run)?;
+    for long in &LONG {
+        check_long(&rt, rt.alloc(), long)?;
     }
     Ok(())
+}
+
+/// Runs the program over a script, with room for the longest reply. What is printed is compared, and not shown.
+fn expect_long(
+    rt: &impl Abort,
+    alloc: Global,
+    disk: &mut Disk,
+    script: Vec<u8>,
+    printed: &[u8],
+) -> Result<(), Fail> {
+    let input = MemSource::new(script, Vec::new(alloc));
+    let out = MemSink::new(alloc, 2_000_000, Vec::new(alloc))?;
+    let told = run_between(rt, alloc, disk, "DIR play", input, out)?;
+    assert_eq!(rt; told.status, 0);
+    assert!(rt; told.printed() == printed);
+    Ok(())
+}
+
+/// A key and a value of the greatest length are stored, and found by a second session.
+#[test]
+fn the_longest_record_comes_back(rt: HostRuntime) -> Result<(), Fail> {
+    let alloc = rt.alloc();
+    let mut disk = Disk::empty(alloc, Vec::new(alloc));
+    let mut script = long_text(alloc, b"0 put 5 ", b'k', 65_535)?;
+    script.push(b' ')?;
+    let mut script = long_text(alloc, script.as_slice(), b'v', 1_048_576)?;
+    script.extend_from_slice(b"\n0 sync\n")?;
+    expect_long(&rt, alloc, &mut disk, script, b"0 none\n0 synced\n")?;
+    let stored = disk.bytes(name_of(V1)?).map(|bytes| bytes.len());
+    assert_eq!(&rt; stored, Some(1_114_135));
+    let removal = long_text(alloc, b"0 remove 5 ", b'k', 65_535)?;
+    let mut printed = long_text(alloc, b"0 was ", b'v', 1_048_576)?;
+    printed.push(b'\n')?;
+    expect_long(&rt, alloc, &mut disk, removal, printed.as_slice())
 }

@@ -1,8 +1,5 @@
-//! Plain maps: what the lines of a script come to, and what the bytes of files tell.
+//! Plain maps: what the lines of a script come to, and what a dump tells.
 
-use super::Left;
-use super::recording::Kept;
-use hr_base::{Class, Pick, class_of};
 use std::alloc::Global;
 use std::collections::BTreeMap;
 use std::test::Fail;
@@ -137,14 +134,13 @@ pub fn lines_of(alloc: Global, script: &str) -> Result<Vec<Line>, Fail> {
     Ok(lines)
 }
 
-/// All keys that lines of a partition name, each once.
-pub fn keys_of(alloc: Global, lines: &[Line], partition: u8) -> Result<Maps, Fail> {
-    let mut keys = BTreeMap::new(alloc);
+/// All keys that lines name, each once, by partition.
+pub fn keys_of(alloc: Global, partitions: u8, lines: &[Line]) -> Result<Vec<Maps>, Fail> {
+    let mut keys = no_maps(alloc, partitions)?;
     for line in lines {
-        if line.partition == partition {
-            let key = line.deed.key.to_vec(alloc)?;
-            keys.insert((line.deed.map, key), Vec::new(alloc))?;
-        }
+        let part = keys.get_mut(line.partition as usize).ok_or("no partition")?;
+        let key = line.deed.key.to_vec(alloc)?;
+        part.insert((line.deed.map, key), Vec::new(alloc))?;
     }
     Ok(keys)
 }
@@ -166,24 +162,34 @@ pub struct Account {
 }
 
 impl Account {
-    /// From empty maps of so many partitions.
-    pub fn after(alloc: Global, partitions: u8, lines: &[Line]) -> Result<Account, Fail> {
-        let mut account = Account {
-            replies: Vec::new(alloc),
-            parts: Vec::new(alloc),
-            alloc,
-        };
-        for _ in 0..partitions {
-            account.parts.push(Part {
-                maps: BTreeMap::new(alloc),
-                durable: BTreeMap::new(alloc),
+    /// From maps that are durable, one of each partition.
+    pub fn over(alloc: Global, found: Vec<Maps>) -> Result<Account, Fail> {
+        let mut parts = Vec::new(alloc);
+        for maps in found {
+            parts.push(Part {
+                durable: maps.clone()?,
+                maps,
                 since: Vec::new(alloc),
             })?;
         }
+        Ok(Account {
+            replies: Vec::new(alloc),
+            parts,
+            alloc,
+        })
+    }
+
+    /// From empty maps of so many partitions.
+    pub fn new(alloc: Global, partitions: u8) -> Result<Account, Fail> {
+        Account::over(alloc, no_maps(alloc, partitions)?)
+    }
+
+    /// Answers lines in order.
+    pub fn answer_all(&mut self, lines: &[Line]) -> Result<(), Fail> {
         for (place, line) in lines.iter().enumerate() {
-            account.answer(place, line)?;
+            self.answer(place, line)?;
         }
-        Ok(account)
+        Ok(())
     }
 
     /// Answers a line.
@@ -208,17 +214,6 @@ impl Account {
         Ok(())
     }
 
-    /// What was replied.
-    pub fn replies(&self) -> &[u8] {
-        self.replies.as_slice()
-    }
-
-    /// The maps of a partition.
-    pub fn maps(&self, partition: u8) -> Option<&Maps> {
-        let part = self.parts.get(partition as usize)?;
-        Some(&part.maps)
-    }
-
     /// A line was refused by the disk, so that its change may be kept or lost.
     pub fn refuse(&mut self, place: usize, line: &Line) -> Result<(), Fail> {
         let part = self
@@ -231,10 +226,33 @@ impl Account {
         Ok(())
     }
 
+    /// What was replied.
+    pub fn replies(&self) -> &[u8] {
+        self.replies.as_slice()
+    }
+
+    /// What a dump of the maps prints.
+    pub fn dumped(&self) -> Result<Vec<u8>, Fail> {
+        let mut text = Vec::new(self.alloc);
+        for (p, part) in self.parts.iter().enumerate() {
+            print_maps(self.alloc, p, &part.maps, &mut text)?;
+        }
+        Ok(text)
+    }
+
+    /// What a dump prints of the maps that were made durable last.
+    pub fn dumped_durable(&self) -> Result<Vec<u8>, Fail> {
+        let mut text = Vec::new(self.alloc);
+        for (p, part) in self.parts.iter().enumerate() {
+            print_maps(self.alloc, p, &part.durable, &mut text)?;
+        }
+        Ok(text)
+    }
+
     /// Whether a key of a partition may have this value after a crash: that of the last answered sync, or the one after
     /// one of its own changes since then.
-    pub fn allows(&self, lines: &[Line], partition: u8, key: &Key, found: Option<&[u8]>) -> bool {
-        let Some(part) = self.parts.get(partition as usize) else {
+    fn allows(&self, lines: &[Line], p: usize, key: &Key, found: Option<&[u8]>) -> bool {
+        let Some(part) = self.parts.get(p) else {
             return false;
         };
         if part.durable.get(key).map(|value| value.as_slice()) == found {
@@ -249,128 +267,57 @@ impl Account {
         }
         false
     }
-}
 
-/// Does to maps what a line would do.
-pub fn change(alloc: Global, maps: &mut Maps, line: &Line, partition: u8) -> Result<(), Fail> {
-    if line.partition == partition {
-        line.deed.apply(alloc, maps, &mut Vec::new(alloc))?;
-    }
-    Ok(())
-}
-
-/// The number at the front of bytes, and those behind it.
-fn number(bytes: &[u8]) -> Option<(u64, &[u8])> {
-    let (number, bytes) = bytes.split_first_chunk::<8>()?;
-    Some((u64::from_be_bytes(*number), bytes))
-}
-
-/// The length at the front of bytes, and those behind it.
-fn length(bytes: &[u8]) -> Option<(usize, &[u8])> {
-    let (length, bytes) = bytes.split_first_chunk::<4>()?;
-    Some((u32::from_be_bytes(*length) as usize, bytes))
-}
-
-/// A record as it is spelled in a file.
-#[derive(Clone, Copy)]
-struct Record<'a> {
-    number: u64,
-    verb: Verb,
-    map: u64,
-    key: &'a [u8],
-    value: &'a [u8],
-}
-
-/// The record at the front of the bytes, where there is a whole one, and the bytes behind it.
-fn first_record(class: Class, bytes: &[u8]) -> Option<(Record<'_>, &[u8])> {
-    let (first, bytes) = number(bytes)?;
-    let (second, bytes) = number(bytes)?;
-    if class == Class::Clear {
-        let record = Record {
-            number: second,
-            verb: Verb::Clear,
-            map: first,
-            key: b"",
-            value: b"",
-        };
-        return Some((record, bytes));
-    }
-    let (key, bytes) = length(bytes)?;
-    let (value, bytes) = match class {
-        Class::Value => length(bytes)?,
-        _ => (0, bytes),
-    };
-    let (key, bytes) = bytes.split_at_checked(key)?;
-    let (value, bytes) = bytes.split_at_checked(value)?;
-    let verb = match class {
-        Class::Value => Verb::Put,
-        _ => Verb::Remove,
-    };
-    let record = Record {
-        number: first,
-        verb,
-        map: second,
-        key,
-        value,
-    };
-    Some((record, bytes))
-}
-
-/// Notes what the whole records of a file tell, by their numbers.
-fn read_deeds(
-    alloc: Global,
-    class: Class,
-    file: &[u8],
-    deeds: &mut BTreeMap<u64, Deed>,
-) -> Result<(), Fail> {
-    let mut left = file;
-    for _ in 0..file.len() {
-        let Some((record, rest)) = first_record(class, left) else {
-            break;
-        };
-        let deed = Deed {
-            verb: record.verb,
-            map: record.map,
-            key: record.key.to_vec(alloc)?,
-            value: record.value.to_vec(alloc)?,
-        };
-        deeds.insert(record.number, deed)?;
-        left = rest;
-    }
-    Ok(())
-}
-
-/// How many bytes a crash leaves of a file that has so many. A name that was not synced may be lost with all of them.
-fn left_of(kept: &Kept, bytes: usize, pick: Pick) -> usize {
-    let rest = bytes.saturating_sub(kept.front);
-    match pick {
-        Pick::Most => bytes,
-        Pick::Least => { if kept.is_named { kept.front } else { 0 } }
-        Pick::Mix(seed) => {
-            let draw = seed.saturating_add(kept.name.number.0);
-            if !kept.is_named && draw % 2 == 0 {
-                return 0;
+    /// Whether a crash may leave these maps of a partition: no key is there that is none of these, and each of these has
+    /// a value that it may have.
+    pub fn may_leave(&self, lines: &[Line], p: usize, keys: &Maps, found: &Maps) -> bool {
+        for key in found.keys() {
+            if !keys.contains_key(key) {
+                return false;
             }
-            kept.front.saturating_add(rest / 4 * (draw % 5) as usize)
         }
+        for key in keys.keys() {
+            let value = found.get(key).map(|value| value.as_slice());
+            if !self.allows(lines, p, key, value) {
+                return false;
+            }
+        }
+        true
     }
 }
 
-/// The maps of a partition that what a crash leaves of its files tells.
-pub fn maps_left(alloc: Global, left: &Left, partition: u8, pick: Pick) -> Result<Maps, Fail> {
-    let mut deeds = BTreeMap::new(alloc);
-    for kept in left.folder.kept() {
-        if kept.name.partition.0 == partition {
-            let bytes = left.bytes(kept.name).unwrap_or(b"");
-            let some = left_of(kept, bytes.len(), pick);
-            let image = bytes.get(..some).unwrap_or(bytes);
-            read_deeds(alloc, class_of(kept.name.kind), image, &mut deeds)?;
-        }
+/// Empty maps, one of each partition.
+fn no_maps(alloc: Global, partitions: u8) -> Result<Vec<Maps>, Fail> {
+    let mut parts = Vec::new(alloc);
+    for _ in 0..partitions {
+        parts.push(BTreeMap::new(alloc))?;
     }
-    let mut maps = BTreeMap::new(alloc);
-    let mut replies = Vec::new(alloc);
-    for deed in deeds.values() {
-        deed.apply(alloc, &mut maps, &mut replies)?;
+    Ok(parts)
+}
+
+/// Prints the lines of a partition's maps.
+fn print_maps(alloc: Global, p: usize, maps: &Maps, text: &mut Vec<u8>) -> Result<(), Fail> {
+    for (key, value) in maps {
+        text.extend_from_slice(format!(in alloc; "{p} {} ", key.0)?.as_bytes())?;
+        text.extend_from_slice(key.1.as_slice())?;
+        text.push(b' ')?;
+        text.extend_from_slice(value.as_slice())?;
+        text.push(b'\n')?;
     }
-    Ok(maps)
+    Ok(())
+}
+
+/// The maps that a dump tells, one of each partition. Keys and values stand for themselves.
+pub fn maps_of(alloc: Global, partitions: u8, dump: &[u8]) -> Result<Vec<Maps>, Fail> {
+    let mut parts = no_maps(alloc, partitions)?;
+    for line in str::from_utf8(dump)?.lines() {
+        let mut words = line.split(' ');
+        let p = words.next().unwrap_or("").parse::<usize>()?;
+        let map = words.next().unwrap_or("").parse::<u64>()?;
+        let key = words.next().ok_or("no key")?.as_bytes().to_vec(alloc)?;
+        let value = words.next().ok_or("no value")?.as_bytes().to_vec(alloc)?;
+        let part = parts.get_mut(p).ok_or("no partition")?;
+        part.insert((map, key), value)?;
+    }
+    Ok(parts)
 }

@@ -1,258 +1,784 @@
-//! Runs without faults: what is printed, and what each file holds then, byte by byte.
+//! Runs over folders whose files are written out: what is printed, and what each file holds then.
 
-use super::{Left, VALUES, run, words};
-use crate::serve::serve;
-use hr_base::{ChunkName, ChunkNo, Kind, Partition};
+use super::disk::Disk;
+use super::files::Piece::{self, Raw, T, V, X};
+use super::files::{
+    OTHER_V1, Stored, T2, V1, V2, W1, X2, X3, bytes_of, disk_of_one, disk_with, expect_same,
+    expect_stored, files_of, name_of,
+};
+use super::{NEVER, Told, plan_from, run, run_between};
+use hr_base::Pick;
 use hr_edges::{MemSink, MemSource};
-use mem_folder::MemFolder;
 use std::alloc::Global;
 use std::process::Abort;
 use std::test::Fail;
 
-const TOMBS: ChunkName = ChunkName {
-    partition: Partition(0),
-    kind: Kind::T,
-    number: ChunkNo(2),
-};
-
-const CLEARS: ChunkName = ChunkName {
-    partition: Partition(0),
-    kind: Kind::X,
-    number: ChunkNo(3),
-};
-
-const MORE_VALUES: ChunkName = ChunkName {
-    partition: Partition(0),
-    kind: Kind::V,
-    number: ChunkNo(2),
-};
-
-const OTHER_VALUES: ChunkName = ChunkName {
-    partition: Partition(1),
-    kind: Kind::V,
-    number: ChunkNo(1),
-};
-
-/// A file with its records, one after another.
+/// What is done to a folder.
 #[derive(Clone, Copy)]
-struct Stored {
-    name: ChunkName,
-    records: &'static [&'static [u8]],
+enum Step {
+    /// It crashes.
+    Crash(Pick),
+    /// A script is played, which ends with status 0 and prints this.
+    Play(&'static [u8], &'static [u8]),
+    /// Its maps are written, which ends with status 0.
+    Dump(&'static [u8]),
+    /// The program runs with these words over a script, and ends with this status and what is printed.
+    Run(&'static str, &'static [u8], u8, &'static [u8]),
 }
 
-/// A run over an empty folder: command words, script, status, what is printed, and all files then.
+use Step::{Crash, Dump, Play, Run};
+
+/// A folder with some files, whose first fork fails from a call on; what is done to it, one after another; and all files
+/// then, where they are said.
 #[derive(Clone, Copy)]
-struct Run {
+struct Row {
     name: &'static str,
-    words: &'static str,
-    script: &'static [u8],
-    status: u8,
-    printed: &'static [u8],
-    stored: &'static [Stored],
+    files: &'static [Stored],
+    fails: u64,
+    steps: &'static [Step],
+    left: Option<&'static [Stored]>,
 }
 
-/// A refusal of a script by its first line.
-const REFUSED: Run = Run {
-    name: "digits for a byte that stands for itself",
-    words: "DIR play",
-    script: b"0 get 1 %2e\n",
-    status: 2,
-    printed: b"refused line 1\n",
-    stored: &[],
+const ROW: Row = Row {
+    name: "",
+    files: &[],
+    fails: NEVER,
+    steps: &[],
+    left: None,
 };
 
-/// A refusal of the words.
-const WORDLESS: Run = Run {
-    name: "another command",
-    words: "DIR frob",
-    script: b"0 sync\n",
-    status: 1,
-    printed: b"",
-    stored: &[],
+/// The value record of number 1, map 5, key `k1` and value `v1`.
+const FIRST: Piece = Raw(b"\0\0\0\0\0\0\0\x01\0\0\0\0\0\0\0\x05\0\0\0\x02\0\0\0\x02k1v1");
+
+const FIRST_STORED: Stored = Stored {
+    name: V1,
+    pieces: &[FIRST],
 };
 
-const RUNS: [Run; 18] = [
-    Run {
+const TOMBSTONE: Stored = Stored {
+    name: T2,
+    pieces: &[T(2, 1, b"k")],
+};
+
+const TWO_VALUES: Stored = Stored {
+    name: V1,
+    pieces: &[V(1, 7, b"a", b"1"), V(3, 7, b"b", b"2")],
+};
+
+const CLEARING: Stored = Stored {
+    name: X2,
+    pieces: &[X(7, 2)],
+};
+
+const VALUE_X: Stored = Stored {
+    name: V1,
+    pieces: &[V(1, 1, b"a", b"x")],
+};
+
+/// Runs over an empty folder.
+const NEW: [Row; 14] = [
+    Row {
         name: "the first script",
-        words: "DIR play",
-        script: b"0 put 5 k1 v1\n0 sync\n0 get 5 k1\n",
-        status: 0,
-        printed: b"0 none\n0 synced\n0 is v1\n",
-        stored: &[Stored {
-            name: VALUES,
-            records: &[b"\0\0\0\0\0\0\0\x01\0\0\0\0\0\0\0\x05\0\0\0\x02\0\0\0\x02k1v1"],
-        }],
+        steps: &[
+            Play(
+                b"0 put 5 k1 v1\n0 sync\n0 get 5 k1\n",
+                b"0 none\n0 synced\n0 is v1\n",
+            ),
+            Dump(b"0 5 k1 v1\n"),
+        ],
+        left: Some(&[FIRST_STORED]),
+        ..ROW
     },
-    Run {
+    Row {
+        name: "a second session goes on",
+        steps: &[
+            Play(b"0 put 5 k1 v1\n0 sync\n", b"0 none\n0 synced\n"),
+            Play(
+                b"0 put 5 k1 v2\n0 get 5 k1\n0 sync",
+                b"0 was v1\n0 is v2\n0 synced\n",
+            ),
+            Dump(b"0 5 k1 v2\n"),
+        ],
+        left: Some(&[
+            FIRST_STORED,
+            Stored {
+                name: V2,
+                pieces: &[V(2, 5, b"k1", b"v2")],
+            },
+        ]),
+        ..ROW
+    },
+    Row {
         name: "nothing is put",
-        words: "DIR play",
-        script: b"0 get 5 k1\n0 sync",
-        status: 0,
-        printed: b"0 none\n0 synced\n",
-        stored: &[],
+        steps: &[
+            Play(b"0 get 5 k1\n0 sync", b"0 none\n0 synced\n"),
+            Dump(b""),
+        ],
+        left: Some(&[]),
+        ..ROW
     },
-    Run {
+    Row {
         name: "an empty script",
-        words: "DIR play",
-        script: b"",
-        status: 0,
-        printed: b"",
-        stored: &[],
+        steps: &[Play(b"", b"")],
+        left: Some(&[]),
+        ..ROW
     },
-    Run {
+    Row {
+        name: "the least of two sessions",
+        steps: &[
+            Play(
+                b"0 put 1 k a\n0 sync\n0 put 1 k b\n",
+                b"0 none\n0 synced\n0 was a\n",
+            ),
+            Crash(Pick::Least),
+            Play(b"0 get 1 k\n", b"0 is a\n"),
+        ],
+        left: Some(&[Stored {
+            name: V1,
+            pieces: &[V(1, 1, b"k", b"a")],
+        }]),
+        ..ROW
+    },
+    Row {
+        name: "the most of two sessions",
+        steps: &[
+            Play(
+                b"0 put 1 k a\n0 sync\n0 put 1 k b\n",
+                b"0 none\n0 synced\n0 was a\n",
+            ),
+            Crash(Pick::Most),
+            Play(b"0 get 1 k\n", b"0 is b\n"),
+        ],
+        left: Some(&[Stored {
+            name: V1,
+            pieces: &[V(1, 1, b"k", b"a"), V(2, 1, b"k", b"b")],
+        }]),
+        ..ROW
+    },
+    // A put and its sync are four calls of the port: a creation, an append, a file sync and a directory sync.
+    Row {
+        name: "the least after a failed directory sync",
+        fails: 4,
+        steps: &[
+            Run(
+                "DIR play",
+                b"0 put 5 k1 v1\n0 sync\n",
+                5,
+                b"0 none\nrefused disk\n",
+            ),
+            Crash(Pick::Least),
+            Dump(b""),
+        ],
+        left: Some(&[]),
+        ..ROW
+    },
+    Row {
+        name: "the most after a failed directory sync",
+        fails: 4,
+        steps: &[
+            Run(
+                "DIR play",
+                b"0 put 5 k1 v1\n0 sync\n",
+                5,
+                b"0 none\nrefused disk\n",
+            ),
+            Crash(Pick::Most),
+            Dump(b"0 5 k1 v1\n"),
+        ],
+        left: Some(&[FIRST_STORED]),
+        ..ROW
+    },
+    Row {
+        name: "no fifth call",
+        fails: 5,
+        steps: &[
+            Play(b"0 put 5 k1 v1\n0 sync\n", b"0 none\n0 synced\n"),
+            Crash(Pick::Least),
+            Dump(b"0 5 k1 v1\n"),
+        ],
+        left: Some(&[FIRST_STORED]),
+        ..ROW
+    },
+    Row {
         name: "empty keys and values, and bytes by their digits",
-        words: "DIR play",
-        script: b"0 put 1 % %\n0 get 1 %\n0 put 1 %00 a\n0 get 1 %00",
-        status: 0,
-        printed: b"0 none\n0 is %\n0 none\n0 is a\n",
-        stored: &[Stored {
-            name: VALUES,
-            records: &[
-                b"\0\0\0\0\0\0\0\x01\0\0\0\0\0\0\0\x01\0\0\0\0\0\0\0\0",
-                b"\0\0\0\0\0\0\0\x02\0\0\0\0\0\0\0\x01\0\0\0\x01\0\0\0\x01\0a",
-            ],
-        }],
+        steps: &[
+            Play(
+                b"0 put 1 % %\n0 get 1 %\n0 put 1 %00 a\n0 get 1 %00",
+                b"0 none\n0 is %\n0 none\n0 is a\n",
+            ),
+            Dump(b"0 1 % %\n0 1 %00 a\n"),
+        ],
+        left: Some(&[Stored {
+            name: V1,
+            pieces: &[V(1, 1, b"", b""), V(2, 1, b"\0", b"a")],
+        }]),
+        ..ROW
     },
     // Of an absent key and of an empty map nothing is written.
-    Run {
+    Row {
         name: "nothing is there to be removed or cleared",
-        words: "DIR play",
-        script: b"0 remove 1 k\n0 clear 1\n0 sync\n",
-        status: 0,
-        printed: b"0 none\n0 cleared 0\n0 synced\n",
-        stored: &[],
+        steps: &[Play(
+            b"0 remove 1 k\n0 clear 1\n0 sync\n",
+            b"0 none\n0 cleared 0\n0 synced\n",
+        )],
+        left: Some(&[]),
+        ..ROW
     },
-    Run {
+    Row {
         name: "a chunk of each class",
-        words: "DIR play --partitions 1",
-        script: b"0 put 1 a x\n0 put 1 a yy\n0 put 1 b z\n0 remove 1 b\n0 put 2 c q\n0 clear 2\n0 put 2 d r\n0 sync\n",
-        status: 0,
-        printed: b"0 none\n0 was x\n0 none\n0 was z\n0 none\n0 cleared 1\n0 none\n0 synced\n",
-        stored: &[
+        steps: &[
+            Run(
+                "DIR play --partitions 1",
+                b"0 put 1 a x\n0 put 1 a yy\n0 put 1 b z\n0 remove 1 b\n0 put 2 c q\n0 clear 2\n0 put 2 d r\n0 sync\n",
+                0,
+                b"0 none\n0 was x\n0 none\n0 was z\n0 none\n0 cleared 1\n0 none\n0 synced\n",
+            ),
+            Dump(b"0 1 a yy\n0 2 d r\n"),
+        ],
+        left: Some(&[
             Stored {
-                name: VALUES,
-                records: &[
-                    b"\0\0\0\0\0\0\0\x01\0\0\0\0\0\0\0\x01\0\0\0\x01\0\0\0\x01ax",
-                    b"\0\0\0\0\0\0\0\x02\0\0\0\0\0\0\0\x01\0\0\0\x01\0\0\0\x02ayy",
-                    b"\0\0\0\0\0\0\0\x03\0\0\0\0\0\0\0\x01\0\0\0\x01\0\0\0\x01bz",
-                    b"\0\0\0\0\0\0\0\x05\0\0\0\0\0\0\0\x02\0\0\0\x01\0\0\0\x01cq",
-                    b"\0\0\0\0\0\0\0\x07\0\0\0\0\0\0\0\x02\0\0\0\x01\0\0\0\x01dr",
+                name: V1,
+                pieces: &[
+                    Raw(b"\0\0\0\0\0\0\0\x01\0\0\0\0\0\0\0\x01\0\0\0\x01\0\0\0\x01ax"),
+                    Raw(b"\0\0\0\0\0\0\0\x02\0\0\0\0\0\0\0\x01\0\0\0\x01\0\0\0\x02ayy"),
+                    Raw(b"\0\0\0\0\0\0\0\x03\0\0\0\0\0\0\0\x01\0\0\0\x01\0\0\0\x01bz"),
+                    Raw(b"\0\0\0\0\0\0\0\x05\0\0\0\0\0\0\0\x02\0\0\0\x01\0\0\0\x01cq"),
+                    Raw(b"\0\0\0\0\0\0\0\x07\0\0\0\0\0\0\0\x02\0\0\0\x01\0\0\0\x01dr"),
                 ],
             },
             Stored {
-                name: TOMBS,
-                records: &[b"\0\0\0\0\0\0\0\x04\0\0\0\0\0\0\0\x01\0\0\0\x01b"],
+                name: T2,
+                pieces: &[Raw(b"\0\0\0\0\0\0\0\x04\0\0\0\0\0\0\0\x01\0\0\0\x01b")],
             },
             Stored {
-                name: CLEARS,
-                records: &[b"\0\0\0\0\0\0\0\x02\0\0\0\0\0\0\0\x06"],
+                name: X3,
+                pieces: &[Raw(b"\0\0\0\0\0\0\0\x02\0\0\0\0\0\0\0\x06")],
             },
-        ],
+        ]),
+        ..ROW
     },
     // Each partition has numbers and files of its own.
-    Run {
+    Row {
         name: "two partitions",
-        words: "DIR play --partitions 2",
-        script: b"1 put 5 k v\n0 put 5 k w\n1 get 5 k\n1 sync\n",
-        status: 0,
-        printed: b"1 none\n0 none\n1 is v\n1 synced\n",
-        stored: &[
-            Stored {
-                name: VALUES,
-                records: &[b"\0\0\0\0\0\0\0\x01\0\0\0\0\0\0\0\x05\0\0\0\x01\0\0\0\x01kw"],
-            },
-            Stored {
-                name: OTHER_VALUES,
-                records: &[b"\0\0\0\0\0\0\0\x01\0\0\0\0\0\0\0\x05\0\0\0\x01\0\0\0\x01kv"],
-            },
+        steps: &[
+            Run(
+                "DIR play --partitions 2",
+                b"1 put 5 k v\n0 put 5 k w\n1 get 5 k\n1 sync\n",
+                0,
+                b"1 none\n0 none\n1 is v\n1 synced\n",
+            ),
+            Run("DIR dump --partitions 2", b"", 0, b"0 5 k w\n1 5 k v\n"),
+            Run(
+                "DIR dump --partitions 1",
+                b"",
+                6,
+                b"refused partition p01-v-0000000000000001.chunk\n",
+            ),
         ],
+        left: Some(&[
+            Stored {
+                name: V1,
+                pieces: &[V(1, 5, b"k", b"w")],
+            },
+            Stored {
+                name: OTHER_V1,
+                pieces: &[V(1, 5, b"k", b"v")],
+            },
+        ]),
+        ..ROW
     },
-    Run {
-        name: "a partition that is none of two",
-        words: "DIR play --partitions 2",
-        script: b"0 put 5 k w\n2 sync\n",
-        printed: b"refused line 2\n",
-        ..REFUSED
-    },
-    Run {
-        name: "a partition that is none of eight",
-        script: b"7 sync\n8 sync\n",
-        printed: b"refused line 2\n",
-        ..REFUSED
-    },
-    Run {
-        name: "a field is missing",
-        script: b"0 put 5 k1 v1\n0 put 5 k1 \n",
-        printed: b"refused line 2\n",
-        ..REFUSED
-    },
-    REFUSED,
-    Run {
-        name: "the same in capitals",
-        script: b"0 get 1 %2E",
-        ..REFUSED
-    },
-    Run {
-        name: "two spaces",
-        script: b"0  get 1 a",
-        ..REFUSED
-    },
-    WORDLESS,
-    Run {
-        name: "a folder alone",
-        words: "DIR",
-        ..WORDLESS
-    },
-    Run {
-        name: "no partitions",
-        words: "DIR play --partitions 0",
-        ..WORDLESS
-    },
-    Run {
-        name: "an equals sign",
-        words: "DIR play --partitions=2",
-        ..WORDLESS
-    },
-    Run {
-        name: "an option twice",
-        words: "DIR play --partitions 2 --partitions 2",
-        ..WORDLESS
+    // By partition, then by the number of the map, then by the bytes of the key.
+    Row {
+        name: "maps in order",
+        steps: &[
+            Play(
+                b"7 put 1 k v\n0 put 10 a x\n0 put 9 z w\n0 put 9 Z u\n0 put 9 %20 v\n0 put 9 zz t\n2 put 3 b y\n0 put 9 % s\n0 put 9 %FF r\n2 put 3 a %25%00\n",
+                b"7 none\n0 none\n0 none\n0 none\n0 none\n0 none\n2 none\n0 none\n0 none\n2 none\n",
+            ),
+            Dump(
+                b"0 9 % s\n0 9 %20 v\n0 9 Z u\n0 9 z w\n0 9 zz t\n0 9 %FF r\n0 10 a x\n2 3 a %25%00\n2 3 b y\n7 1 k v\n",
+            ),
+        ],
+        ..ROW
     },
 ];
 
-/// Compares all files.
-fn expect_stored(
+/// Runs over files that restart.
+const FOUND: [Row; 9] = [
+    Row {
+        name: "a tombstone alone",
+        files: &[TOMBSTONE],
+        steps: &[Dump(b"")],
+        ..ROW
+    },
+    Row {
+        name: "two values",
+        files: &[TWO_VALUES],
+        steps: &[Dump(b"0 7 a 1\n0 7 b 2\n")],
+        ..ROW
+    },
+    Row {
+        name: "a clearing between two values",
+        files: &[TWO_VALUES, CLEARING],
+        steps: &[
+            Dump(b"0 7 b 2\n"),
+            Play(
+                b"0 get 7 a\n0 put 7 c 3\n0 sync\n",
+                b"0 none\n0 none\n0 synced\n",
+            ),
+            Dump(b"0 7 b 2\n0 7 c 3\n"),
+        ],
+        left: Some(&[
+            TWO_VALUES,
+            CLEARING,
+            Stored {
+                name: "p00-v-0000000000000003.chunk",
+                pieces: &[V(4, 7, b"c", b"3")],
+            },
+        ]),
+        ..ROW
+    },
+    Row {
+        name: "a tombstone behind a value",
+        files: &[
+            Stored {
+                name: V1,
+                pieces: &[V(1, 1, b"k", b"a"), V(3, 1, b"l", b"b")],
+            },
+            TOMBSTONE,
+        ],
+        steps: &[Dump(b"0 1 l b\n")],
+        ..ROW
+    },
+    Row {
+        name: "one record twice",
+        files: &[
+            VALUE_X,
+            Stored {
+                name: W1,
+                pieces: &[V(1, 1, b"a", b"x")],
+            },
+        ],
+        steps: &[Dump(b"0 1 a x\n")],
+        ..ROW
+    },
+    // The greatest number of a record.
+    Row {
+        name: "no number for a record",
+        files: &[Stored {
+            name: V1,
+            pieces: &[V(9_223_372_036_854_775_807, 1, b"a", b"x")],
+        }],
+        steps: &[
+            Run(
+                "DIR play",
+                b"0 get 1 a\n0 put 1 b y\n",
+                8,
+                b"0 is x\nrefused spent 9223372036854775808\n",
+            ),
+            Dump(b"0 1 a x\n"),
+        ],
+        left: Some(&[Stored {
+            name: V1,
+            pieces: &[V(9_223_372_036_854_775_807, 1, b"a", b"x")],
+        }]),
+        ..ROW
+    },
+    // The greatest number of a chunk.
+    Row {
+        name: "no number for a chunk",
+        files: &[Stored {
+            name: "p00-v-0000ffffffffffff.chunk",
+            pieces: &[V(1, 1, b"a", b"x")],
+        }],
+        steps: &[
+            Run(
+                "DIR play",
+                b"0 put 1 b y\n",
+                8,
+                b"refused spent 281474976710656\n",
+            ),
+            Dump(b"0 1 a x\n"),
+        ],
+        left: Some(&[Stored {
+            name: "p00-v-0000ffffffffffff.chunk",
+            pieces: &[V(1, 1, b"a", b"x")],
+        }]),
+        ..ROW
+    },
+    Row {
+        name: "a partition among ten",
+        files: &[Stored {
+            name: "p09-v-0000000000000001.chunk",
+            pieces: &[V(1, 1, b"a", b"x")],
+        }],
+        steps: &[
+            Run(
+                "DIR play",
+                b"0 get 1 a\n",
+                6,
+                b"refused partition p09-v-0000000000000001.chunk\n",
+            ),
+            Run(
+                "DIR dump",
+                b"",
+                6,
+                b"refused partition p09-v-0000000000000001.chunk\n",
+            ),
+            Run("DIR play --partitions 10", b"9 get 1 a\n", 0, b"9 is x\n"),
+            Run("DIR dump --partitions 10", b"", 0, b"9 1 a x\n"),
+        ],
+        ..ROW
+    },
+    Row {
+        name: "a torn record is passed over",
+        files: &[Stored {
+            name: V1,
+            pieces: &[V(1, 1, b"a", b"x"), Raw(b"\0\0\0\0\0\0\0\x02\0\0\0\0")],
+        }],
+        steps: &[
+            Play(
+                b"0 put 1 b y\n0 sync\n0 get 1 a\n",
+                b"0 none\n0 synced\n0 is x\n",
+            ),
+            Dump(b"0 1 a x\n0 1 b y\n"),
+        ],
+        left: Some(&[
+            Stored {
+                name: V1,
+                pieces: &[V(1, 1, b"a", b"x"), Raw(b"\0\0\0\0\0\0\0\x02\0\0\0\0")],
+            },
+            Stored {
+                name: V2,
+                pieces: &[V(2, 1, b"b", b"y")],
+            },
+        ]),
+        ..ROW
+    },
+];
+
+/// Files that do not restart.
+const REFUSED: [Row; 4] = [
+    Row {
+        name: "zeros",
+        files: &[Stored {
+            name: V1,
+            pieces: &[Raw(&[0; 24])],
+        }],
+        steps: &[
+            Run(
+                "DIR dump",
+                b"",
+                6,
+                b"refused damaged p00-v-0000000000000001.chunk 0\n",
+            ),
+            Run(
+                "DIR play",
+                b"0 put 1 a x\n",
+                6,
+                b"refused damaged p00-v-0000000000000001.chunk 0\n",
+            ),
+        ],
+        ..ROW
+    },
+    Row {
+        name: "zeros behind a record",
+        files: &[Stored {
+            name: V1,
+            pieces: &[V(1, 1, b"a", b"x"), Raw(&[0; 24])],
+        }],
+        steps: &[Run(
+            "DIR dump",
+            b"",
+            6,
+            b"refused damaged p00-v-0000000000000001.chunk 26\n",
+        )],
+        ..ROW
+    },
+    Row {
+        name: "two records of one number",
+        files: &[
+            VALUE_X,
+            Stored {
+                name: W1,
+                pieces: &[V(1, 1, b"a", b"y")],
+            },
+        ],
+        steps: &[
+            Run("DIR dump", b"", 6, b"refused clash 0 1\n"),
+            Run("DIR play", b"0 get 1 a\n", 6, b"refused clash 0 1\n"),
+        ],
+        ..ROW
+    },
+    // Of two things that are wrong the first is told: a stray file before a damaged one, and that before a clash.
+    Row {
+        name: "three faults of content",
+        files: &[
+            Stored {
+                name: V1,
+                pieces: &[V(1, 1, b"a", b"x"), V(1, 1, b"a", b"y")],
+            },
+            Stored {
+                name: OTHER_V1,
+                pieces: &[Raw(&[0; 24])],
+            },
+            Stored {
+                name: "p09-v-0000000000000001.chunk",
+                pieces: &[],
+            },
+        ],
+        steps: &[
+            Run(
+                "DIR dump",
+                b"",
+                6,
+                b"refused partition p09-v-0000000000000001.chunk\n",
+            ),
+            Run(
+                "DIR dump --partitions 10",
+                b"",
+                6,
+                b"refused damaged p01-v-0000000000000001.chunk 0\n",
+            ),
+        ],
+        ..ROW
+    },
+];
+
+/// Words and scripts that are refused, over a folder with a file.
+const UNREAD: [(&str, &str, &[u8], u8, &[u8]); 15] = [
+    (
+        "no partitions",
+        "DIR play --partitions 0",
+        b"0 sync\n",
+        1,
+        b"",
+    ),
+    (
+        "an equals sign",
+        "DIR play --partitions=2",
+        b"0 sync\n",
+        1,
+        b"",
+    ),
+    ("another command", "DIR frob", b"0 sync\n", 1, b""),
+    ("a folder alone", "DIR", b"0 sync\n", 1, b""),
+    (
+        "an option twice",
+        "DIR play --partitions 2 --partitions 2",
+        b"0 sync\n",
+        1,
+        b"",
+    ),
+    (
+        "an option that a dump has not",
+        "DIR dump --value-limit 4096",
+        b"0 sync\n",
+        1,
+        b"",
+    ),
+    (
+        "a partition that is none of two",
+        "DIR play --partitions 2",
+        b"0 put 5 k w\n2 sync\n",
+        2,
+        b"refused line 2\n",
+    ),
+    (
+        "a partition that is none of eight",
+        "DIR play",
+        b"7 sync\n8 sync\n",
+        2,
+        b"refused line 2\n",
+    ),
+    (
+        "a field is missing",
+        "DIR play",
+        b"0 put 5 k1 v1\n0 put 5 k1 \n",
+        2,
+        b"refused line 2\n",
+    ),
+    (
+        "digits for a byte that stands for itself",
+        "DIR play",
+        b"0 get 1 %2e\n",
+        2,
+        b"refused line 1\n",
+    ),
+    (
+        "the same in capitals",
+        "DIR play",
+        b"0 get 1 %2E",
+        2,
+        b"refused line 1\n",
+    ),
+    (
+        "two spaces",
+        "DIR play",
+        b"0  get 1 a",
+        2,
+        b"refused line 1\n",
+    ),
+    ("an empty line", "DIR play", b"\n", 2, b"refused line 1\n"),
+    (
+        "a leading zero",
+        "DIR play",
+        b"0 sync\n00 sync\n",
+        2,
+        b"refused line 2\n",
+    ),
+    // A bad line is told before a folder that does not restart.
+    (
+        "a bad line over a stray file",
+        "DIR play --partitions 1",
+        b"0 sync\nsync\n",
+        2,
+        b"refused line 2\n",
+    ),
+];
+
+/// Runs the program, and compares. Where it wrote nothing, each file has the bytes that it had.
+fn check_run(
     rt: &impl Abort,
     alloc: Global,
-    left: &Left,
     name: &str,
-    stored: &[Stored],
-) -> Result<(), Fail> {
-    assert_eq!(rt; left.folder.kept().len(), stored.len(), "{name}");
-    for file in stored {
-        let mut bytes = Vec::new(alloc);
-        for part in file.records {
-            bytes.extend_from_slice(part)?;
-        }
-        assert_eq!(rt; left.bytes(file.name), Some(bytes.as_slice()), "{name}");
+    disk: &mut Disk,
+    text: &str,
+    script: &[u8],
+) -> Result<Told, Fail> {
+    let before = files_of(alloc, disk)?;
+    let told = run(rt, alloc, disk, text, script)?;
+    let writes = text.contains("play") && matches!(told.status, 0 | 5 | 8);
+    if !writes {
+        expect_same(rt, disk, name, before.as_slice())?;
+    }
+    Ok(told)
+}
+
+/// Takes a step, and compares what is printed.
+fn take_step(
+    rt: &impl Abort,
+    alloc: Global,
+    name: &str,
+    mut disk: Disk,
+    step: Step,
+) -> Result<Disk, Fail> {
+    let (words, script, status, printed) = match step {
+        Step::Crash(pick) => return Ok(disk.crash(pick)),
+        Step::Play(script, printed) => ("DIR play", script, 0, printed),
+        Step::Dump(printed) => ("DIR dump", b"".as_slice(), 0, printed),
+        Step::Run(words, script, status, printed) => (words, script, status, printed),
+    };
+    let told = check_run(rt, alloc, name, &mut disk, words, script)?;
+    told.expect(rt, name, status, printed);
+    Ok(disk)
+}
+
+/// Takes all steps of a row, and compares the files then.
+fn check_row(rt: &impl Abort, alloc: Global, row: &Row) -> Result<(), Fail> {
+    let plans = vec![in alloc; plan_from(alloc, NEVER), plan_from(alloc, row.fails)]?;
+    let mut disk = disk_with(rt, alloc, row.files, plans)?;
+    for step in row.steps {
+        disk = take_step(rt, alloc, row.name, disk, *step)?;
+    }
+    match row.left {
+        Some(stored) => expect_stored(rt, alloc, &mut disk, row.name, stored),
+        None => Ok(()),
+    }
+}
+
+#[test]
+fn sessions_over_new_folders_go_by_the_table(rt: HostRuntime) -> Result<(), Fail> {
+    for row in &NEW {
+        check_row(&rt, rt.alloc(), row)?;
     }
     Ok(())
 }
 
-/// Runs the program, and compares. Where the words or the script are refused, the folder sees no call.
-fn check_run(rt: &impl Abort, alloc: Global, row: &Run) -> Result<(), Fail> {
-    let left = run(rt, alloc, row.words, row.script)?;
-    left.expect(rt, row.name, row.status, row.printed);
-    if row.status != 0 {
-        left.expect_calls(rt, row.name, &[], &[]);
+#[test]
+fn sessions_over_files_go_by_the_table(rt: HostRuntime) -> Result<(), Fail> {
+    for row in &FOUND {
+        check_row(&rt, rt.alloc(), row)?;
     }
-    expect_stored(rt, alloc, &left, row.name, row.stored)
+    Ok(())
 }
 
 #[test]
-fn runs_print_and_store_by_the_table(rt: HostRuntime) -> Result<(), Fail> {
-    for row in &RUNS {
-        check_run(&rt, rt.alloc(), row)?;
+fn wrong_files_are_told_by_the_table(rt: HostRuntime) -> Result<(), Fail> {
+    for row in &REFUSED {
+        check_row(&rt, rt.alloc(), row)?;
+    }
+    Ok(())
+}
+
+#[test]
+fn wrong_words_and_lines_touch_no_file(rt: HostRuntime) -> Result<(), Fail> {
+    let alloc = rt.alloc();
+    let files = [
+        FIRST_STORED,
+        Stored {
+            name: OTHER_V1,
+            pieces: &[V(1, 1, b"a", b"x")],
+        },
+    ];
+    for (name, words, script, status, printed) in UNREAD {
+        let mut disk = disk_with(&rt, alloc, &files, Vec::new(alloc))?;
+        let told = check_run(&rt, alloc, name, &mut disk, words, script)?;
+        told.expect(&rt, name, status, printed);
+    }
+    Ok(())
+}
+
+/// Each front of a record that is not whole is passed over.
+#[test]
+fn fronts_of_a_record_are_torn(rt: HostRuntime) -> Result<(), Fail> {
+    let alloc = rt.alloc();
+    let whole = bytes_of(&rt, alloc, &[V(1, 5, b"k1", b"v1")])?;
+    assert_eq!(&rt; whole.len(), 28);
+    for n in 0..=28 {
+        let front = whole.get(..n).ok_or("no front")?;
+        let mut disk = disk_of_one(alloc, V1, front.to_vec(alloc)?)?;
+        let told = check_run(&rt, alloc, "a front", &mut disk, "DIR dump", b"")?;
+        let printed = if n == 28 {
+            b"0 5 k1 v1\n".as_slice()
+        } else {
+            b""
+        };
+        told.expect(&rt, "a front", 0, printed);
+    }
+    Ok(())
+}
+
+/// A file of one byte more than a restart takes.
+#[test]
+fn a_file_is_too_large(rt: HostRuntime) -> Result<(), Fail> {
+    let alloc = rt.alloc();
+    let mut bytes = Vec::new(alloc);
+    bytes.resize(134_217_729, 0)?;
+    let mut disk = disk_of_one(alloc, V1, bytes)?;
+    let told = run(&rt, alloc, &mut disk, "DIR dump", b"")?;
+    let printed = b"refused too-large p00-v-0000000000000001.chunk\n";
+    told.expect(&rt, "too large", 6, printed);
+    let left = disk.bytes(name_of(V1)?).map(|bytes| bytes.len());
+    assert_eq!(&rt; left, Some(134_217_729));
+    Ok(())
+}
+
+/// A sink with too little room, or one whose first write fails, gets a front of a dump.
+#[test]
+fn a_dump_is_cut_where_the_sink_fails(rt: HostRuntime) -> Result<(), Fail> {
+    let alloc = rt.alloc();
+    let whole = b"0 7 a 1\n0 7 b 2\n".as_slice();
+    for room in 0..=whole.len() {
+        let mut disk = disk_with(&rt, alloc, &[TWO_VALUES], Vec::new(alloc))?;
+        let before = files_of(alloc, &mut disk)?;
+        let input = MemSource::new(Vec::new(alloc), Vec::new(alloc));
+        let out = MemSink::new(alloc, room, Vec::new(alloc))?;
+        let told = run_between(&rt, alloc, &mut disk, "DIR dump", input, out)?;
+        let status = if room < whole.len() { 4 } else { 0 };
+        let front = whole.get(..room).ok_or("no front")?;
+        told.expect(&rt, "a front of a dump", status, front);
+        expect_same(&rt, &mut disk, "a front of a dump", before.as_slice())?;
     }
     Ok(())
 }
@@ -267,24 +793,19 @@ fn a_full_chunk_is_followed_by_another(rt: HostRuntime) -> Result<(), Fail> {
         script.resize(script.len().saturating_add(letters), b'x')?;
         script.extend_from_slice(b"\n0 put 1 b y\n0 sync\n")?;
         let words = "DIR play --partitions 1 --value-limit 4096";
-        let left = run(&rt, alloc, words, script.as_slice())?;
-        left.expect(&rt, name, 0, b"0 none\n0 none\n0 synced\n");
-        assert_eq!(&rt;
-            left.bytes(VALUES).map(|bytes| bytes.len()),
-            Some(first),
-            "{name}"
-        );
-        assert_eq!(&rt;
-            left.bytes(MORE_VALUES).map(|bytes| bytes.len()),
-            Some(26),
-            "{name}"
-        );
-        assert_eq!(&rt; left.folder.kept().len(), 2, "{name}");
+        let mut disk = Disk::empty(alloc, Vec::new(alloc));
+        let told = run(&rt, alloc, &mut disk, words, script.as_slice())?;
+        told.expect(&rt, name, 0, b"0 none\n0 none\n0 synced\n");
+        let full = disk.bytes(name_of(V1)?).map(|bytes| bytes.len());
+        let next = disk.bytes(name_of(V2)?).map(|bytes| bytes.len());
+        assert_eq!(&rt; full, Some(first), "{name}");
+        assert_eq!(&rt; next, Some(26), "{name}");
+        assert_eq!(&rt; disk.names()?.len(), 2, "{name}");
     }
     Ok(())
 }
 
-/// One put, one sync and one get for each of 64 partitions.
+/// One put, one sync and one get for each of 64 partitions, and then a dump.
 #[test]
 fn sixty_four_partitions(rt: HostRuntime) -> Result<(), Fail> {
     let alloc = rt.alloc();
@@ -300,37 +821,24 @@ fn sixty_four_partitions(rt: HostRuntime) -> Result<(), Fail> {
             writeln!(printed, "{p} {reply}")?;
         }
     }
-    let left = run(&rt, alloc, "DIR play --partitions 64", script.as_bytes())?;
-    left.expect(&rt, "64 partitions", 0, printed.as_bytes());
-    assert_eq!(&rt; left.folder.kept().len(), 64);
-    for p in 0..64 {
-        let name = ChunkName {
-            partition: Partition(p),
-            ..VALUES
-        };
-        let record = b"\0\0\0\0\0\0\0\x01\0\0\0\0\0\0\0\x01\0\0\0\x01\0\0\0\x01kv".as_slice();
-        assert_eq!(&rt; left.bytes(name), Some(record), "partition {p}");
+    let mut disk = Disk::empty(alloc, Vec::new(alloc));
+    let told = run(
+        &rt,
+        alloc,
+        &mut disk,
+        "DIR play --partitions 64",
+        script.as_bytes(),
+    )?;
+    told.expect(&rt, "64 partitions", 0, printed.as_bytes());
+    let record = bytes_of(&rt, alloc, &[V(1, 1, b"k", b"v")])?;
+    assert_eq!(&rt; disk.names()?.len(), 64);
+    let mut dumped = String::new(alloc);
+    for p in 0..64u8 {
+        let name = name_of(format!(in alloc; "p{p:02}-v-0000000000000001.chunk")?.as_str())?;
+        assert_eq!(&rt; disk.bytes(name), Some(record.as_slice()), "partition {p}");
+        writeln!(dumped, "{p} 1 k v")?;
     }
-    Ok(())
-}
-
-#[test]
-fn a_chunk_file_is_refused(rt: HostRuntime) -> Result<(), Fail> {
-    let alloc = rt.alloc();
-    let script = b"0 put 5 k1 v1\n0 sync\n";
-    let mut folder = MemFolder::empty(alloc, Vec::new(alloc));
-    let words = words(alloc, "DIR play")?;
-    let mut input = MemSource::new(script.to_vec(alloc)?, Vec::new(alloc));
-    let mut out = MemSink::new(alloc, 100, Vec::new(alloc))?;
-    let first = serve(alloc, words.as_slice(), &mut folder, &mut input, &mut out);
-    let mut again = MemSource::new(script.to_vec(alloc)?, Vec::new(alloc));
-    let mut told = MemSink::new(alloc, 100, Vec::new(alloc))?;
-    let second = serve(alloc, words.as_slice(), &mut folder, &mut again, &mut told);
-    assert_eq!(&rt; (first, second), (0, 6));
-    assert_eq!(&rt;
-        told.taken(),
-        b"refused not-built p00-v-0000000000000001.chunk\n".as_slice()
-    );
-    assert_eq!(&rt; folder.bytes(VALUES).map(|bytes| bytes.len()), Some(28));
+    let told = run(&rt, alloc, &mut disk, "DIR dump --partitions 64", b"")?;
+    told.expect(&rt, "64 partitions", 0, dumped.as_bytes());
     Ok(())
 }
