@@ -1,5 +1,5 @@
 -- What was done, and what was left alone.
-use Rattle.std.proofs.Common.{◌≡◌, ◌⊎◌, ◌∙◌, ℕ, Bool, true, List, [], ◌++◌, Option, refl, inl, inr, subst, sym}
+use Rattle.std.proofs.Common.{◌≡◌, ◌⊎◌, ◌∙◌, ℕ, Bool, true, List, [], Option, refl, inl, inr, subst, sym}
 use Rattle.std.proofs.lemmas.List.{append-nil}
 use Rattle.hr_base.specs.declared.limits.Limits.{Limits}
 use Rattle.hr_edges.specs.Edges.{IsRead, Takes}
@@ -13,13 +13,14 @@ use Rattle.command_words.specs.Words.{IsCommand}
 use Rattle.command_words.specs.declared.read.Command.{Command}
 use Rattle.command_words.specs.declared.read.Command.TheVariants.{Play, Dump}
 use Rattle.restart_load.specs.declared.ended.Ended.TheVariants.{Whole, Memory, Spent}
+use Rattle.restart_load.proofs.LoadLaws.{not_refused}
 use Rattle.store_drill.specs.Dumping.{Wrote, flat}
 use Rattle.store_drill.specs.Sessions.{Outside}
 use Rattle.hotrestart_cli.specs.declared.outcome.Outcome.{Outcome}
 use Rattle.hotrestart_cli.specs.declared.outcome.Outcome.TheVariants.{TooLong, BadLine, Input, Ended}
 use Rattle.hotrestart_cli.specs.Outcome.{last_line, status_of, Tells}
 use Rattle.hotrestart_cli.specs.Scripts.{IsRefusedScript}
-use Rattle.hotrestart_cli.specs.Served.{Because, CameTo, CanBegin, DumpedTo, Means, NotPlayed, RanScript, RanTo, ReadsNothingUnfit, WasDone, WasDumped, WasPlayed, WasSpent, WasSpentBy, World, partitions_of}
+use Rattle.hotrestart_cli.specs.Served.{Because, CameTo, CanBegin, DumpedTo, Means, RanScript, RanTo, ReadsNothingUnfit, WasDone, WasDumped, WasPlayed, WasSpent, WasSpentBy, WasUnloadable, World, partitions_of}
 use Rattle.hotrestart_cli.proofs.Meanings.{means_also, means_this, obeyed}
 use Rattle.hotrestart_cli.proofs.Outcomes.{spent_told, told_of, whole_told}
 
@@ -126,13 +127,17 @@ spent_restarts (Dump limits) image left before now spent = absurd spent
 
 -- ---- what nothing stands against
 
-pub begins_restartable : (command : Command) (image : Image) (left : Option (List ℕ)) → CanBegin command image left → IsRestartable image (partitions_of command)
+begins_restartable : (command : Command) (image : Image) (left : Option (List ℕ)) → CanBegin command image left → IsRestartable image (partitions_of command)
 begins_restartable (Play limits) image left can = can.2
 begins_restartable (Dump limits) image left can = can
 
 pub begins_fit : (command : Command) (image : Image) (left : Option (List ℕ)) → CanBegin command image left → ReadsNothingUnfit command left
 begins_fit (Play limits) image left can = can.0
 begins_fit (Dump limits) image left can = tt
+
+pub begins_loadable : (command : Command) (image : Image) (left before now : Option (List ℕ)) → CanBegin command image left → WasUnloadable (partitions_of command) image before now → ⊥
+begins_loadable command image left before now can wrong =
+    not_refused image (partitions_of command) (begins_restartable command image left can) wrong.refusal wrong.first wrong.content
 
 pub begins_unspent : (command : Command) (image : Image) (left before now : Option (List ℕ)) → CanBegin command image left → WasSpentBy command image left before now → ⊥
 begins_unspent (Play limits) image left before now can spent = can.1 spent.lines spent.start spent.count spent.next spent.script spent.started spent.spent

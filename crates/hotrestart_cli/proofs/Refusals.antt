@@ -1,8 +1,8 @@
 -- What has to be refused, and what was told of it.
-use Rattle.std.proofs.Common.{◌≡◌, ◌⊎◌, ◌∙◌, ℕ, Bool, true, List, Option, refl, inl, inr, subst}
+use Rattle.std.proofs.Common.{◌≡◌, ◌∙◌, ℕ, Bool, true, List, Option, refl, inl, inr, subst}
 use Rattle.hr_base.specs.declared.limits.Limits.{Limits}
 use Rattle.hr_edges.specs.Edges.{Takes}
-use Rattle.dir_files.specs.Images.{Image, read_of}
+use Rattle.dir_files.specs.Images.{read_of}
 use Rattle.command_words.specs.Words.{IsCommand}
 use Rattle.command_words.specs.declared.read.Command.{Command}
 use Rattle.command_words.specs.declared.read.Command.TheVariants.{Play, Dump}

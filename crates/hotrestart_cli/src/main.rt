@@ -20,7 +20,7 @@ use real_folder::RealFolder;
 pub use serve::serve;
 use std::io::BufWriter;
 use std::process::ExitCode;
-use std::{env, io};
+use std::{env, fs, io};
 use store_drill::Ended;
 use telling::tell;
 
@@ -86,7 +86,18 @@ fn serve_words(rt: &HostRuntime, out: &mut StdSink<BufWriter<io::Stdout>>) -> u8
     status
 }
 
+/// Opens the null device three times. The system gives each file the lowest free number: where the program was started
+/// without a standard stream, no chunk file gets that stream's number, as long as these files are open.
+fn stand_ins(rt: &HostRuntime) -> [io::Result<fs::File>; 3] {
+    [
+        fs::File::open(rt, "/dev/null"),
+        fs::File::open(rt, "/dev/null"),
+        fs::File::open(rt, "/dev/null"),
+    ]
+}
+
 fn main(rt: HostRuntime) -> ExitCode {
+    let _stand_ins = stand_ins(&rt);
     let status = match BufWriter::with_capacity(rt.alloc(), OUTPUT_LEN, rt.stdout()) {
         Ok(buffer) => {
             let mut out = StdSink::new(buffer);

@@ -14,20 +14,20 @@ use std::alloc::Global;
 use std::process::Abort;
 use std::test::Fail;
 
-pub const V1: &str = "p00-v-0000000000000001.chunk";
+pub const VALUES: &str = "p00-v-0000000000000001.chunk";
 
-pub const V2: &str = "p00-v-0000000000000002.chunk";
+pub const MORE_VALUES: &str = "p00-v-0000000000000002.chunk";
 
-pub const W1: &str = "p00-w-0000000000000001.chunk";
+pub const COPIES: &str = "p00-w-0000000000000001.chunk";
 
-pub const T2: &str = "p00-t-0000000000000002.chunk";
+pub const TOMBS: &str = "p00-t-0000000000000002.chunk";
 
-pub const X2: &str = "p00-x-0000000000000002.chunk";
+pub const CLEARINGS: &str = "p00-x-0000000000000002.chunk";
 
-pub const X3: &str = "p00-x-0000000000000003.chunk";
+pub const MORE_CLEARINGS: &str = "p00-x-0000000000000003.chunk";
 
 /// The first chunk of values of partition 1.
-pub const OTHER_V1: &str = "p01-v-0000000000000001.chunk";
+pub const OTHER_VALUES: &str = "p01-v-0000000000000001.chunk";
 
 /// A piece of a file.
 #[derive(Clone, Copy)]

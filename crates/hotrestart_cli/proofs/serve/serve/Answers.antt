@@ -2,7 +2,7 @@ use Rattle.std.proofs.Common.{◌∙◌, ap, inl, inr}
 use Rattle.restart_load.proofs.LoadLaws.{not_refused}
 use Rattle.hotrestart_cli.specs.Outcome.{last_line}
 use Rattle.hotrestart_cli.specs.Served.{WasDone, WasRefused, WasSpentBy, WasUnloadable, partitions_of}
-use Rattle.hotrestart_cli.proofs.Doings.{begins_fit, begins_restartable, begins_unspent, done_restarts, done_told, number_told, read_told, spent_restarts, unwritten_by}
+use Rattle.hotrestart_cli.proofs.Doings.{begins_fit, begins_loadable, begins_unspent, done_restarts, done_told, number_told, read_told, spent_restarts, unwritten_by}
 use Rattle.hotrestart_cli.proofs.Meanings.{means_this, rose_earlier, rose_later}
 use Rattle.hotrestart_cli.proofs.Outcomes.{all_done, disk_told, early_told, input_told, wordless_told, words_told, wrong_told}
 use Rattle.hotrestart_cli.proofs.Refusals.{fit_refused, refused_told, unfit_told, unloadable_told}
@@ -66,8 +66,7 @@ returns-clause-complete g c y command meaning can source sink folder =
       | inr rose ↦ sink (rose_earlier _ _ _ c.run-outcome.ensures.sink_kept rose)
     ])
     (λ e. folder (c.run-outcome.ensures.disk (disk_told _ _ _ _ heard e)))
-    (λ e. let wrong = means_this _ (λ x. WasUnloadable (partitions_of x) _ _ _) command meaning (unloadable_told _ _ _ _ _ _ _ because heard y e) in
-      not_refused _ _ (begins_restartable command _ _ can) wrong.refusal wrong.first wrong.content)
+    (λ e. begins_loadable command _ _ _ _ can (means_this _ (λ x. WasUnloadable (partitions_of x) _ _ _) command meaning (unloadable_told _ _ _ _ _ _ _ because heard y e)))
     (λ e. begins_unspent command _ _ _ _ can (means_this _ (λ x. WasSpentBy x _ _ _ _) command meaning (number_told _ _ _ _ _ _ _ because heard y e)))
 
 pub returns-clause-loaded : goal.returns-clause-loaded
