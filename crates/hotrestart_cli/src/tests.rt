@@ -62,6 +62,30 @@ impl Told {
         self.out.taken()
     }
 
+    /// How many lines were answered: each has one line of what was printed. A last line tells that the disk failed.
+    fn answered(&self) -> usize {
+        let last = usize::from(self.status == 5);
+        let lines = self.printed().iter().filter(|b| **b == b'\n').count();
+        lines.saturating_sub(last)
+    }
+
+    /// Compares what was printed with replies, behind which a last line tells where the disk failed.
+    fn expect_replies(
+        &self,
+        rt: &impl Abort,
+        alloc: Global,
+        name: &str,
+        replies: &[u8],
+    ) -> Result<(), Fail> {
+        let mut printed = replies.to_vec(alloc)?;
+        if self.status != 0 {
+            printed.extend_from_slice(b"refused disk\n")?;
+        }
+        let status = if self.status == 0 { 0 } else { 5 };
+        self.expect(rt, name, status, printed.as_slice());
+        Ok(())
+    }
+
     /// Compares both.
     fn expect(&self, rt: &impl Abort, name: &str, status: u8, printed: &[u8]) {
         assert_eq!(rt; self.printed(), printed, "{name}");

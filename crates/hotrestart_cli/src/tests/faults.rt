@@ -1,7 +1,7 @@
 //! One short script with a fault of the folder, the source or the sink.
 
 use super::disk::Disk;
-use super::files::{V1, name_of};
+use super::files::{VALUES, name_of};
 use super::{NEVER, plan_from, run_between};
 use hr_edges::{MemSink, MemSource};
 use std::alloc::Global;
@@ -172,7 +172,7 @@ fn check_faulty(rt: &impl Abort, alloc: Global, run: &Faulty) -> Result<(), Fail
     let name = run.name;
     told.expect(rt, name, run.status, run.printed);
     assert_eq!(rt; disk.faults(), run.faults, "{name}");
-    let stored = disk.bytes(name_of(V1)?);
+    let stored = disk.bytes(name_of(VALUES)?);
     assert_eq!(rt; stored.map(|bytes| bytes.len()), run.stored, "{name}");
     assert!(rt; RECORD.starts_with(stored.unwrap_or(b"")), "{name}");
     Ok(())

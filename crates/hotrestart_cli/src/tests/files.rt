@@ -5,27 +5,29 @@ ghost use Rattle.hr_base.specs.Names.{IsChunkName};
 
 use super::disk::Disk;
 use bytes::Bytes;
-use hr_base::{ChunkName, MAX_KEY_LEN, MAX_VALUE_LEN, SEQ_END, Seq, read_name};
+use hr_base::{
+    CHUNK_NO_END, ChunkName, MAX_KEY_LEN, MAX_PARTITIONS, MAX_VALUE_LEN, SEQ_END, Seq, read_name,
+};
 use mem_folder::FaultPlan;
 use record_format::{Record, encode};
 use std::alloc::Global;
 use std::process::Abort;
 use std::test::Fail;
 
-pub const V1: &str = "p00-v-0000000000000001.chunk";
+pub const VALUES: &str = "p00-v-0000000000000001.chunk";
 
-pub const V2: &str = "p00-v-0000000000000002.chunk";
+pub const MORE_VALUES: &str = "p00-v-0000000000000002.chunk";
 
-pub const W1: &str = "p00-w-0000000000000001.chunk";
+pub const COPIES: &str = "p00-w-0000000000000001.chunk";
 
-pub const T2: &str = "p00-t-0000000000000002.chunk";
+pub const TOMBS: &str = "p00-t-0000000000000002.chunk";
 
-pub const X2: &str = "p00-x-0000000000000002.chunk";
+pub const CLEARINGS: &str = "p00-x-0000000000000002.chunk";
 
-pub const X3: &str = "p00-x-0000000000000003.chunk";
+pub const MORE_CLEARINGS: &str = "p00-x-0000000000000003.chunk";
 
 /// The first chunk of values of partition 1.
-pub const OTHER_V1: &str = "p01-v-0000000000000001.chunk";
+pub const OTHER_VALUES: &str = "p01-v-0000000000000001.chunk";
 
 /// A piece of a file.
 #[derive(Clone, Copy)]
@@ -173,6 +175,46 @@ pub fn disk_of_one(alloc: Global, name: &str, bytes: Vec<u8>) -> Result<Disk, Fa
     let name = name_of(name)?;
     let files = vec![in alloc; (name, bytes)]?;
     Ok(Disk::of(alloc, files, Vec::new(alloc))?)
+}
+
+fn push_copy(
+    rt: &impl Abort,
+    alloc: Global,
+    disk: &Disk,
+    name: ChunkName,
+    files: &mut Vec<File>,
+) -> Result<(), Fail>
+    requires { All (λ file. IsChunkName file.0) files.old.items }
+    ensures { OnOk result (All (λ file. IsChunkName file.0) files.new.items) }
+{
+    let known = name.partition.0 < MAX_PARTITIONS
+        && 0 < name.number.0
+        && name.number.0 < CHUNK_NO_END;
+    assert!(rt; known);
+    let bytes = disk.bytes(name).ok_or("no such file")?;
+    files.push((name, bytes.to_vec(alloc)?))?;
+    Ok(())
+}
+
+fn copies(rt: &impl Abort, alloc: Global, disk: &mut Disk) -> Result<Vec<File>, Fail>
+    ensures { IfOk result (λ files. All (λ file. IsChunkName file.0) files.items) }
+{
+    let mut files = Vec::new(alloc);
+    for name in disk.names()? {
+        push_copy(rt, alloc, disk, name, &mut files)?;
+    }
+    Ok(files)
+}
+
+/// A folder with the files of another one, all of them durable. The root of that one is asked once.
+pub fn copied(
+    rt: &impl Abort,
+    alloc: Global,
+    disk: &mut Disk,
+    plans: Vec<FaultPlan>,
+) -> Result<Disk, Fail> {
+    let files = copies(rt, alloc, disk)?;
+    Ok(Disk::of(alloc, files, plans)?)
 }
 
 /// All files of a folder, in the order of their names. The root is asked once.

@@ -1,7 +1,7 @@
 //! Scripts at the limits of a value and of a script, and past them.
 
 use super::disk::Disk;
-use super::files::{V1, name_of};
+use super::files::{VALUES, name_of};
 use super::{plan_from, run, run_between};
 use hr_edges::{MemSink, MemSource};
 use std::alloc::Global;
@@ -80,7 +80,7 @@ fn check_long(rt: &impl Abort, alloc: Global, long: &Long) -> Result<(), Fail> {
     let name = long.name;
     told.expect(rt, name, long.status, long.printed);
     assert_eq!(rt; disk.faults(), long.calls, "{name}");
-    assert!(rt; disk.bytes(name_of(V1)?).is_none(), "{name}");
+    assert!(rt; disk.bytes(name_of(VALUES)?).is_none(), "{name}");
     Ok(())
 }
 
@@ -118,7 +118,7 @@ fn the_longest_record_comes_back(rt: HostRuntime) -> Result<(), Fail> {
     let mut script = long_text(alloc, script.as_slice(), b'v', 1_048_576)?;
     script.extend_from_slice(b"\n0 sync\n")?;
     expect_long(&rt, alloc, &mut disk, script, b"0 none\n0 synced\n")?;
-    let stored = disk.bytes(name_of(V1)?).map(|bytes| bytes.len());
+    let stored = disk.bytes(name_of(VALUES)?).map(|bytes| bytes.len());
     assert_eq!(&rt; stored, Some(1_114_135));
     let removal = long_text(alloc, b"0 remove 5 ", b'k', 65_535)?;
     let mut printed = long_text(alloc, b"0 was ", b'v', 1_048_576)?;

@@ -134,15 +134,14 @@ pub fn lines_of(alloc: Global, script: &str) -> Result<Vec<Line>, Fail> {
     Ok(lines)
 }
 
-/// All keys that lines name, each once, by partition.
-pub fn keys_of(alloc: Global, partitions: u8, lines: &[Line]) -> Result<Vec<Maps>, Fail> {
-    let mut keys = no_maps(alloc, partitions)?;
+/// Adds all keys that lines name to those of each partition.
+pub fn add_keys(alloc: Global, lines: &[Line], keys: &mut [Maps]) -> Result<(), Fail> {
     for line in lines {
         let part = keys.get_mut(line.partition as usize).ok_or("no partition")?;
         let key = line.deed.key.to_vec(alloc)?;
         part.insert((line.deed.map, key), Vec::new(alloc))?;
     }
-    Ok(keys)
+    Ok(())
 }
 
 /// The maps of a partition: now, and as of the last sync that was answered; and the places of the changes since then.
@@ -186,8 +185,18 @@ impl Account {
 
     /// Answers lines in order.
     pub fn answer_all(&mut self, lines: &[Line]) -> Result<(), Fail> {
-        for (place, line) in lines.iter().enumerate() {
+        self.answer_some(lines, lines.len())
+    }
+
+    /// Answers so many first lines. The next one, if there is one, is refused by the disk, so that its change may be kept
+    /// or lost.
+    pub fn answer_some(&mut self, lines: &[Line], count: usize) -> Result<(), Fail> {
+        let (done, rest) = lines.split_at_checked(count).ok_or("too many lines")?;
+        for (place, line) in done.iter().enumerate() {
             self.answer(place, line)?;
+        }
+        if let Some(refused) = rest.first() {
+            self.change(count, refused)?;
         }
         Ok(())
     }
@@ -208,14 +217,11 @@ impl Account {
             part.durable = part.maps.clone()?;
             part.since.clear();
         }
-        if line.deed.is_change() {
-            part.since.push(place)?;
-        }
-        Ok(())
+        self.change(place, line)
     }
 
-    /// A line was refused by the disk, so that its change may be kept or lost.
-    pub fn refuse(&mut self, place: usize, line: &Line) -> Result<(), Fail> {
+    /// Notes the place of a line that is a change.
+    fn change(&mut self, place: usize, line: &Line) -> Result<(), Fail> {
         let part = self
             .parts
             .get_mut(line.partition as usize)
@@ -270,7 +276,7 @@ impl Account {
 
     /// Whether a crash may leave these maps of a partition: no key is there that is none of these, and each of these has
     /// a value that it may have.
-    pub fn may_leave(&self, lines: &[Line], p: usize, keys: &Maps, found: &Maps) -> bool {
+    fn may_leave_part(&self, lines: &[Line], p: usize, keys: &Maps, found: &Maps) -> bool {
         for key in found.keys() {
             if !keys.contains_key(key) {
                 return false;
@@ -284,10 +290,23 @@ impl Account {
         }
         true
     }
+
+    /// The same of all partitions, after some of the lines.
+    pub fn may_leave(&self, lines: &[Line], keys: &[Maps], found: &[Maps]) -> bool {
+        if keys.len() != self.parts.len() || found.len() != self.parts.len() {
+            return false;
+        }
+        for (p, (keys, maps)) in keys.iter().zip(found).enumerate() {
+            if !self.may_leave_part(lines, p, keys, maps) {
+                return false;
+            }
+        }
+        true
+    }
 }
 
 /// Empty maps, one of each partition.
-fn no_maps(alloc: Global, partitions: u8) -> Result<Vec<Maps>, Fail> {
+pub fn no_maps(alloc: Global, partitions: u8) -> Result<Vec<Maps>, Fail> {
     let mut parts = Vec::new(alloc);
     for _ in 0..partitions {
         parts.push(BTreeMap::new(alloc))?;

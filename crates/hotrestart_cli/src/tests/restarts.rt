@@ -2,7 +2,7 @@
 
 use super::disk::Disk;
 use super::files::Piece::{T, V};
-use super::files::{OTHER_V1, Stored, T2, V1, disk_with, name_of};
+use super::files::{OTHER_VALUES, Stored, TOMBS, VALUES, disk_with, name_of};
 use super::{plan_at, plan_from, run};
 use hr_base::Pick;
 use mem_folder::FaultPlan;
@@ -12,7 +12,7 @@ use std::test::Fail;
 
 const FILES: [Stored; 3] = [
     Stored {
-        name: V1,
+        name: VALUES,
         pieces: &[
             V(1, 7, b"a", b"1"),
             V(2, 7, b"b", b"2"),
@@ -20,11 +20,11 @@ const FILES: [Stored; 3] = [
         ],
     },
     Stored {
-        name: T2,
+        name: TOMBS,
         pieces: &[T(3, 7, b"a")],
     },
     Stored {
-        name: OTHER_V1,
+        name: OTHER_VALUES,
         pieces: &[V(1, 5, b"k", b"v")],
     },
 ];

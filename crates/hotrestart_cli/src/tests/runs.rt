@@ -3,8 +3,8 @@
 use super::disk::Disk;
 use super::files::Piece::{self, Raw, T, V, X};
 use super::files::{
-    OTHER_V1, Stored, T2, V1, V2, W1, X2, X3, bytes_of, disk_of_one, disk_with, expect_same,
-    expect_stored, files_of, name_of,
+    CLEARINGS, COPIES, MORE_CLEARINGS, MORE_VALUES, OTHER_VALUES, Stored, TOMBS, VALUES, bytes_of,
+    disk_of_one, disk_with, expect_same, expect_stored, files_of, name_of,
 };
 use super::{NEVER, Told, plan_from, run, run_between};
 use hr_base::Pick;
@@ -51,32 +51,32 @@ const ROW: Row = Row {
 const FIRST: Piece = Raw(b"\0\0\0\0\0\0\0\x01\0\0\0\0\0\0\0\x05\0\0\0\x02\0\0\0\x02k1v1");
 
 const FIRST_STORED: Stored = Stored {
-    name: V1,
+    name: VALUES,
     pieces: &[FIRST],
 };
 
 const TOMBSTONE: Stored = Stored {
-    name: T2,
+    name: TOMBS,
     pieces: &[T(2, 1, b"k")],
 };
 
 const TWO_VALUES: Stored = Stored {
-    name: V1,
+    name: VALUES,
     pieces: &[V(1, 7, b"a", b"1"), V(3, 7, b"b", b"2")],
 };
 
 const CLEARING: Stored = Stored {
-    name: X2,
+    name: CLEARINGS,
     pieces: &[X(7, 2)],
 };
 
 const VALUE_X: Stored = Stored {
-    name: V1,
+    name: VALUES,
     pieces: &[V(1, 1, b"a", b"x")],
 };
 
 /// Runs over an empty folder.
-const NEW: [Row; 14] = [
+const NEW: [Row; 17] = [
     Row {
         name: "the first script",
         steps: &[
@@ -102,7 +102,7 @@ const NEW: [Row; 14] = [
         left: Some(&[
             FIRST_STORED,
             Stored {
-                name: V2,
+                name: MORE_VALUES,
                 pieces: &[V(2, 5, b"k1", b"v2")],
             },
         ]),
@@ -134,7 +134,7 @@ const NEW: [Row; 14] = [
             Play(b"0 get 1 k\n", b"0 is a\n"),
         ],
         left: Some(&[Stored {
-            name: V1,
+            name: VALUES,
             pieces: &[V(1, 1, b"k", b"a")],
         }]),
         ..ROW
@@ -150,9 +150,43 @@ const NEW: [Row; 14] = [
             Play(b"0 get 1 k\n", b"0 is b\n"),
         ],
         left: Some(&[Stored {
-            name: V1,
+            name: VALUES,
             pieces: &[V(1, 1, b"k", b"a"), V(2, 1, b"k", b"b")],
         }]),
+        ..ROW
+    },
+    // A restart makes all durable that is there, also before a session without a line.
+    Row {
+        name: "a dump makes a put durable",
+        steps: &[
+            Play(b"0 put 1 k a\n", b"0 none\n"),
+            Dump(b"0 1 k a\n"),
+            Crash(Pick::Least),
+            Dump(b"0 1 k a\n"),
+        ],
+        ..ROW
+    },
+    Row {
+        name: "an empty session makes a removal durable",
+        steps: &[
+            Play(
+                b"0 put 1 k a\n0 put 2 l b\n0 remove 1 k\n",
+                b"0 none\n0 none\n0 was a\n",
+            ),
+            Play(b"", b""),
+            Crash(Pick::Least),
+            Dump(b"0 2 l b\n"),
+        ],
+        ..ROW
+    },
+    Row {
+        name: "a put without a sync is lost",
+        steps: &[
+            Play(b"0 put 1 k a\n", b"0 none\n"),
+            Crash(Pick::Least),
+            Dump(b""),
+        ],
+        left: Some(&[]),
         ..ROW
     },
     // A put and its sync are four calls of the port: a creation, an append, a file sync and a directory sync.
@@ -209,7 +243,7 @@ const NEW: [Row; 14] = [
             Dump(b"0 1 % %\n0 1 %00 a\n"),
         ],
         left: Some(&[Stored {
-            name: V1,
+            name: VALUES,
             pieces: &[V(1, 1, b"", b""), V(2, 1, b"\0", b"a")],
         }]),
         ..ROW
@@ -237,7 +271,7 @@ const NEW: [Row; 14] = [
         ],
         left: Some(&[
             Stored {
-                name: V1,
+                name: VALUES,
                 pieces: &[
                     Raw(b"\0\0\0\0\0\0\0\x01\0\0\0\0\0\0\0\x01\0\0\0\x01\0\0\0\x01ax"),
                     Raw(b"\0\0\0\0\0\0\0\x02\0\0\0\0\0\0\0\x01\0\0\0\x01\0\0\0\x02ayy"),
@@ -247,11 +281,11 @@ const NEW: [Row; 14] = [
                 ],
             },
             Stored {
-                name: T2,
+                name: TOMBS,
                 pieces: &[Raw(b"\0\0\0\0\0\0\0\x04\0\0\0\0\0\0\0\x01\0\0\0\x01b")],
             },
             Stored {
-                name: X3,
+                name: MORE_CLEARINGS,
                 pieces: &[Raw(b"\0\0\0\0\0\0\0\x02\0\0\0\0\0\0\0\x06")],
             },
         ]),
@@ -277,11 +311,11 @@ const NEW: [Row; 14] = [
         ],
         left: Some(&[
             Stored {
-                name: V1,
+                name: VALUES,
                 pieces: &[V(1, 5, b"k", b"w")],
             },
             Stored {
-                name: OTHER_V1,
+                name: OTHER_VALUES,
                 pieces: &[V(1, 5, b"k", b"v")],
             },
         ]),
@@ -342,7 +376,7 @@ const FOUND: [Row; 9] = [
         name: "a tombstone behind a value",
         files: &[
             Stored {
-                name: V1,
+                name: VALUES,
                 pieces: &[V(1, 1, b"k", b"a"), V(3, 1, b"l", b"b")],
             },
             TOMBSTONE,
@@ -355,7 +389,7 @@ const FOUND: [Row; 9] = [
         files: &[
             VALUE_X,
             Stored {
-                name: W1,
+                name: COPIES,
                 pieces: &[V(1, 1, b"a", b"x")],
             },
         ],
@@ -366,7 +400,7 @@ const FOUND: [Row; 9] = [
     Row {
         name: "no number for a record",
         files: &[Stored {
-            name: V1,
+            name: VALUES,
             pieces: &[V(9_223_372_036_854_775_807, 1, b"a", b"x")],
         }],
         steps: &[
@@ -379,7 +413,7 @@ const FOUND: [Row; 9] = [
             Dump(b"0 1 a x\n"),
         ],
         left: Some(&[Stored {
-            name: V1,
+            name: VALUES,
             pieces: &[V(9_223_372_036_854_775_807, 1, b"a", b"x")],
         }]),
         ..ROW
@@ -433,7 +467,7 @@ const FOUND: [Row; 9] = [
     Row {
         name: "a torn record is passed over",
         files: &[Stored {
-            name: V1,
+            name: VALUES,
             pieces: &[V(1, 1, b"a", b"x"), Raw(b"\0\0\0\0\0\0\0\x02\0\0\0\0")],
         }],
         steps: &[
@@ -445,11 +479,11 @@ const FOUND: [Row; 9] = [
         ],
         left: Some(&[
             Stored {
-                name: V1,
+                name: VALUES,
                 pieces: &[V(1, 1, b"a", b"x"), Raw(b"\0\0\0\0\0\0\0\x02\0\0\0\0")],
             },
             Stored {
-                name: V2,
+                name: MORE_VALUES,
                 pieces: &[V(2, 1, b"b", b"y")],
             },
         ]),
@@ -462,7 +496,7 @@ const REFUSED: [Row; 4] = [
     Row {
         name: "zeros",
         files: &[Stored {
-            name: V1,
+            name: VALUES,
             pieces: &[Raw(&[0; 24])],
         }],
         steps: &[
@@ -484,7 +518,7 @@ const REFUSED: [Row; 4] = [
     Row {
         name: "zeros behind a record",
         files: &[Stored {
-            name: V1,
+            name: VALUES,
             pieces: &[V(1, 1, b"a", b"x"), Raw(&[0; 24])],
         }],
         steps: &[Run(
@@ -500,7 +534,7 @@ const REFUSED: [Row; 4] = [
         files: &[
             VALUE_X,
             Stored {
-                name: W1,
+                name: COPIES,
                 pieces: &[V(1, 1, b"a", b"y")],
             },
         ],
@@ -515,11 +549,11 @@ const REFUSED: [Row; 4] = [
         name: "three faults of content",
         files: &[
             Stored {
-                name: V1,
+                name: VALUES,
                 pieces: &[V(1, 1, b"a", b"x"), V(1, 1, b"a", b"y")],
             },
             Stored {
-                name: OTHER_V1,
+                name: OTHER_VALUES,
                 pieces: &[Raw(&[0; 24])],
             },
             Stored {
@@ -717,7 +751,7 @@ fn wrong_words_and_lines_touch_no_file(rt: HostRuntime) -> Result<(), Fail> {
     let files = [
         FIRST_STORED,
         Stored {
-            name: OTHER_V1,
+            name: OTHER_VALUES,
             pieces: &[V(1, 1, b"a", b"x")],
         },
     ];
@@ -737,7 +771,7 @@ fn fronts_of_a_record_are_torn(rt: HostRuntime) -> Result<(), Fail> {
     assert_eq!(&rt; whole.len(), 28);
     for n in 0..=28 {
         let front = whole.get(..n).ok_or("no front")?;
-        let mut disk = disk_of_one(alloc, V1, front.to_vec(alloc)?)?;
+        let mut disk = disk_of_one(alloc, VALUES, front.to_vec(alloc)?)?;
         let told = check_run(&rt, alloc, "a front", &mut disk, "DIR dump", b"")?;
         let printed = if n == 28 {
             b"0 5 k1 v1\n".as_slice()
@@ -755,11 +789,11 @@ fn a_file_is_too_large(rt: HostRuntime) -> Result<(), Fail> {
     let alloc = rt.alloc();
     let mut bytes = Vec::new(alloc);
     bytes.resize(134_217_729, 0)?;
-    let mut disk = disk_of_one(alloc, V1, bytes)?;
+    let mut disk = disk_of_one(alloc, VALUES, bytes)?;
     let told = run(&rt, alloc, &mut disk, "DIR dump", b"")?;
     let printed = b"refused too-large p00-v-0000000000000001.chunk\n";
     told.expect(&rt, "too large", 6, printed);
-    let left = disk.bytes(name_of(V1)?).map(|bytes| bytes.len());
+    let left = disk.bytes(name_of(VALUES)?).map(|bytes| bytes.len());
     assert_eq!(&rt; left, Some(134_217_729));
     Ok(())
 }
@@ -796,8 +830,8 @@ fn a_full_chunk_is_followed_by_another(rt: HostRuntime) -> Result<(), Fail> {
         let mut disk = Disk::empty(alloc, Vec::new(alloc));
         let told = run(&rt, alloc, &mut disk, words, script.as_slice())?;
         told.expect(&rt, name, 0, b"0 none\n0 none\n0 synced\n");
-        let full = disk.bytes(name_of(V1)?).map(|bytes| bytes.len());
-        let next = disk.bytes(name_of(V2)?).map(|bytes| bytes.len());
+        let full = disk.bytes(name_of(VALUES)?).map(|bytes| bytes.len());
+        let next = disk.bytes(name_of(MORE_VALUES)?).map(|bytes| bytes.len());
         assert_eq!(&rt; full, Some(first), "{name}");
         assert_eq!(&rt; next, Some(26), "{name}");
         assert_eq!(&rt; disk.names()?.len(), 2, "{name}");

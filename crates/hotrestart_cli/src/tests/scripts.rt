@@ -4,9 +4,11 @@
 ghost use Rattle.std.specs.Prelude.{◌<◌};
 
 use super::disk::Disk;
-use super::maps::{Account, Line, Maps, keys_of, lines_of, maps_of};
-use super::run;
-use hr_base::Pick;
+use super::files::copied;
+use super::maps::{Account, Line, Maps, add_keys, lines_of, maps_of, no_maps};
+use super::{NEVER, plan_at, plan_from, run};
+use hr_base::{Kind, Pick};
+use mem_folder::FaultPlan;
 use std::alloc::Global;
 use std::process::Abort;
 use std::test::Fail;
@@ -59,10 +61,10 @@ impl Draws {
         }
     }
 
-    /// How many letters a value has beside its number: mostly few, and sometimes up to 2,000.
+    /// How many letters a value has behind its number: few, or up to 1,990.
     fn letters(&mut self) -> u64 {
-        match self.below(4) {
-            0 => self.below(1_990),
+        match self.below(2) {
+            0 => self.below(1_991),
             _ => self.below(3),
         }
     }
@@ -97,12 +99,11 @@ fn push_line(draws: &mut Draws, number: u64, script: &mut String) -> Result<(), 
     Ok(())
 }
 
-/// A script, its lines, and the keys that they name.
+/// A script and its lines.
 #[derive(Drop)]
 struct Script {
     text: String,
     lines: Vec<Line>,
-    keys: Vec<Maps>,
 }
 
 impl Script {
@@ -113,18 +114,52 @@ impl Script {
             push_line(draws, number, &mut text)?;
         }
         let lines = lines_of(alloc, text.as_str())?;
-        let keys = keys_of(alloc, PARTITIONS, lines.as_slice())?;
-        Ok(Script { text, lines, keys })
+        Ok(Script { text, lines })
     }
 }
 
-/// A script, what it comes to over empty maps, and one that is played after it.
+/// Which call of which port fails, and whether all after it fail too. The root is port 0.
+#[derive(Clone, Copy)]
+struct Stop {
+    port: u64,
+    call: u64,
+    goes_on: bool,
+}
+
+impl Stop {
+    /// Draws a stop that many a session of such a script comes to.
+    fn draw(draws: &mut Draws) -> Stop {
+        let port = draws.below(3);
+        Stop {
+            port,
+            call: draws.below(30).saturating_add(1),
+            goes_on: draws.below(2) == 0,
+        }
+    }
+
+    /// The plans of all ports.
+    fn plans(self, alloc: Global) -> Result<Vec<FaultPlan>, Fail> {
+        let mut plans = Vec::new(alloc);
+        for _ in 0..self.port {
+            plans.push(plan_from(alloc, NEVER))?;
+        }
+        if self.goes_on {
+            plans.push(plan_from(alloc, self.call))?;
+        } else {
+            plans.push(plan_at(alloc, self.call)?)?;
+        }
+        Ok(plans)
+    }
+}
+
+/// A script, what it comes to over empty maps, one that is played after it, and where the disk may stop that one.
 #[derive(Drop)]
 struct Pair {
     words: &'static str,
     first: Script,
     account: Account,
     second: Script,
+    stop: Stop,
     alloc: Global,
 }
 
@@ -134,6 +169,7 @@ impl Pair {
         let mut draws = Draws { state: number };
         let first = Script::draw(alloc, &mut draws)?;
         let second = Script::draw(alloc, &mut draws)?;
+        let stop = Stop::draw(&mut draws);
         let mut account = Account::new(alloc, PARTITIONS)?;
         account.answer_all(first.lines.as_slice())?;
         let words = if number % 2 == 0 { PLAYS[0] } else { PLAYS[1] };
@@ -142,6 +178,7 @@ impl Pair {
             first,
             account,
             second,
+            stop,
             alloc,
         })
     }
@@ -155,51 +192,84 @@ impl Pair {
         Ok(disk)
     }
 
-    /// Dumps what is left, and compares it with what may be left.
-    fn find(&self, rt: &impl Abort, disk: &mut Disk, pick: Pick) -> Result<Vec<u8>, Fail> {
+    /// Dumps what a crash left of some lines, and compares it with what may be left. All keys are those that were there
+    /// before, and those that the lines name.
+    fn find(
+        &self,
+        rt: &impl Abort,
+        disk: &mut Disk,
+        account: &Account,
+        lines: &[Line],
+        mut keys: Vec<Maps>,
+    ) -> Result<Vec<u8>, Fail> {
         let told = run(rt, self.alloc, disk, DUMP, b"")?;
-        assert_eq!(rt; told.status, 0, "{pick:?}");
+        assert_eq!(rt; told.status, 0);
+        add_keys(self.alloc, lines, keys.as_mut_slice())?;
         let found = maps_of(self.alloc, PARTITIONS, told.printed())?;
-        let lines = self.first.lines.as_slice();
-        for (p, (keys, maps)) in self.first.keys.iter().zip(found.as_slice()).enumerate() {
-            assert!(rt; self.account.may_leave(lines, p, keys, maps), "{pick:?}");
-        }
+        assert!(rt; account.may_leave(lines, keys.as_slice(), found.as_slice()));
         Ok(told.printed().to_vec(self.alloc)?)
+    }
+
+    /// What a crash leaves of the first script, and its dump.
+    fn crash_first(&self, rt: &impl Abort, pick: Pick) -> Result<(Disk, Vec<u8>), Fail> {
+        let mut disk = self.play_first(rt)?.crash(pick);
+        let keys = no_maps(self.alloc, PARTITIONS)?;
+        let lines = self.first.lines.as_slice();
+        let found = self.find(rt, &mut disk, &self.account, lines, keys)?;
+        Ok((disk, found))
+    }
+
+    /// What so many first lines of the second script come to over what was found.
+    fn account_over(&self, found: &[u8], answered: usize) -> Result<Account, Fail> {
+        let maps = maps_of(self.alloc, PARTITIONS, found)?;
+        let mut account = Account::over(self.alloc, maps)?;
+        account.answer_some(self.second.lines.as_slice(), answered)?;
+        Ok(account)
     }
 
     /// Plays the second script over what was found, and compares its replies, and what is dumped then.
     fn play_second(&self, rt: &impl Abort, disk: &mut Disk, found: &[u8]) -> Result<(), Fail> {
-        let maps = maps_of(self.alloc, PARTITIONS, found)?;
-        let mut next = Account::over(self.alloc, maps)?;
-        next.answer_all(self.second.lines.as_slice())?;
+        let account = self.account_over(found, self.second.lines.len())?;
         let script = self.second.text.as_bytes();
         let told = run(rt, self.alloc, disk, self.words, script)?;
-        told.expect(rt, "the second script", 0, next.replies());
+        told.expect(rt, "the second script", 0, account.replies());
         let told = run(rt, self.alloc, disk, DUMP, b"")?;
-        told.expect(rt, "the maps", 0, next.dumped()?.as_slice());
+        told.expect(rt, "the maps", 0, account.dumped()?.as_slice());
         Ok(())
     }
 
-    /// All of that with a crash between.
-    fn check(&self, rt: &impl Abort, pick: Pick) -> Result<Vec<u8>, Fail> {
-        let mut disk = self.play_first(rt)?.crash(pick);
-        let found = self.find(rt, &mut disk, pick)?;
-        self.play_second(rt, &mut disk, found.as_slice())?;
-        Ok(found)
+    /// Plays the second script over what a crash left, where the disk stops it, and crashes again. What is left then is
+    /// compared with what may be left of the lines that were answered. The answer is whether the disk stopped it.
+    fn stop_second(&self, rt: &impl Abort, pick: Pick) -> Result<bool, Fail> {
+        let (mut disk, found) = self.crash_first(rt, pick)?;
+        let mut disk = copied(rt, self.alloc, &mut disk, self.stop.plans(self.alloc)?)?;
+        let script = self.second.text.as_bytes();
+        let told = run(rt, self.alloc, &mut disk, self.words, script)?;
+        let stopped = disk.faults() > 0;
+        assert_eq!(rt; stopped, told.status == 5);
+        let account = self.account_over(found.as_slice(), told.answered())?;
+        told.expect_replies(rt, self.alloc, "the stopped script", account.replies())?;
+        let mut left = disk.crash(pick);
+        let keys = maps_of(self.alloc, PARTITIONS, found.as_slice())?;
+        let lines = self.second.lines.as_slice();
+        self.find(rt, &mut left, &account, lines, keys)?;
+        Ok(stopped)
     }
 }
 
-/// How many crashes lost some of the maps, and how many kept more than the last syncs had.
+/// How many crashes there were, and how many of them lost some of the maps, kept more than the last syncs had, or came
+/// to a partition with several chunks of values.
 #[derive(Drop)]
 struct Counts {
     crashes: u64,
     lost: u64,
     kept: u64,
+    full: u64,
 }
 
 impl Counts {
     /// Counts what a crash left.
-    fn add(&mut self, pair: &Pair, found: &[u8]) -> Result<(), Fail> {
+    fn add(&mut self, pair: &Pair, disk: &mut Disk, found: &[u8]) -> Result<(), Fail> {
         self.crashes = self.crashes.saturating_add(1);
         if pair.account.dumped()?.as_slice() != found {
             self.lost = self.lost.saturating_add(1);
@@ -207,22 +277,28 @@ impl Counts {
         if pair.account.dumped_durable()?.as_slice() != found {
             self.kept = self.kept.saturating_add(1);
         }
+        let names = disk.names()?;
+        if names.iter().filter(|name| name.kind == Kind::V).count() > 2 {
+            self.full = self.full.saturating_add(1);
+        }
         Ok(())
     }
 }
 
-/// Draws scripts by their numbers, and checks each of them for every pick, and without a crash.
-fn check_scripts(rt: &impl Abort, alloc: Global, from: u64, to: u64) -> Result<Counts, Fail> {
+/// Draws scripts, and checks each of them for every pick, and without a crash.
+fn check_scripts(rt: &impl Abort, alloc: Global) -> Result<Counts, Fail> {
     let mut counts = Counts {
         crashes: 0,
         lost: 0,
         kept: 0,
+        full: 0,
     };
-    for number in from..to {
+    for number in 0..SCRIPTS {
         let pair = Pair::draw(alloc, number)?;
         for pick in PICKS {
-            let found = pair.check(rt, pick)?;
-            counts.add(&pair, found.as_slice())?;
+            let (mut disk, found) = pair.crash_first(rt, pick)?;
+            counts.add(&pair, &mut disk, found.as_slice())?;
+            pair.play_second(rt, &mut disk, found.as_slice())?;
         }
         let mut disk = pair.play_first(rt)?;
         pair.play_second(rt, &mut disk, pair.account.dumped()?.as_slice())?;
@@ -232,9 +308,32 @@ fn check_scripts(rt: &impl Abort, alloc: Global, from: u64, to: u64) -> Result<C
 
 #[test]
 fn drawn_scripts_survive_crashes(rt: HostRuntime) -> Result<(), Fail> {
-    let counts = check_scripts(&rt, rt.alloc(), 0, SCRIPTS)?;
+    let counts = check_scripts(&rt, rt.alloc())?;
     assert_eq!(&rt; counts.crashes, 2_100);
-    assert!(&rt; counts.lost > 300);
-    assert!(&rt; counts.kept > 300);
+    assert!(&rt; counts.lost > 1_000, "{} lost", counts.lost);
+    assert!(&rt; counts.kept > 1_000, "{} kept", counts.kept);
+    assert!(&rt; counts.full > 300, "{} full", counts.full);
+    Ok(())
+}
+
+/// Two crashes, with a session between them that the disk stops.
+#[test]
+fn stopped_sessions_survive_crashes(rt: HostRuntime) -> Result<(), Fail> {
+    let alloc = rt.alloc();
+    let mut stopped = 0u64;
+    let mut whole = 0u64;
+    for number in 0..SCRIPTS {
+        let pair = Pair::draw(alloc, number)?;
+        for pick in PICKS {
+            if pair.stop_second(&rt, pick)? {
+                stopped = stopped.saturating_add(1);
+            } else {
+                whole = whole.saturating_add(1);
+            }
+        }
+    }
+    assert_eq!(&rt; stopped.saturating_add(whole), 2_100);
+    assert!(&rt; stopped > 700, "{stopped} stopped");
+    assert!(&rt; whole > 700, "{whole} not stopped");
     Ok(())
 }

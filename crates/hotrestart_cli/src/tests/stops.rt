@@ -2,7 +2,7 @@
 //! maps.
 
 use super::disk::Disk;
-use super::maps::{Account, Line, Maps, keys_of, lines_of, maps_of};
+use super::maps::{Account, Line, Maps, add_keys, lines_of, maps_of, no_maps};
 use super::{NEVER, Told, plan_at, plan_from, run};
 use hr_base::{Class, Pick, class_of};
 use mem_folder::FaultPlan;
@@ -85,25 +85,19 @@ struct Session {
     alloc: Global,
 }
 
-/// What a session printed, and its folder.
+/// What a session told, and its folder.
 #[derive(Drop)]
 struct Played {
     told: Told,
     disk: Disk,
 }
 
-/// How many lines were answered: each has one line of what was printed, and the end is told in one more.
-fn count_answered(told: &Told) -> usize {
-    let end = usize::from(told.status == 5);
-    let lines = told.printed().iter().filter(|b| **b == b'\n').count();
-    lines.saturating_sub(end)
-}
-
 impl Session {
     fn new(alloc: Global) -> Result<Session, Fail> {
         let script = script(alloc)?;
         let lines = lines_of(alloc, script.as_str())?;
-        let keys = keys_of(alloc, PARTITIONS, lines.as_slice())?;
+        let mut keys = no_maps(alloc, PARTITIONS)?;
+        add_keys(alloc, lines.as_slice(), keys.as_mut_slice())?;
         let more = lines_of(alloc, MORE)?;
         Ok(Session {
             script,
@@ -128,27 +122,9 @@ impl Session {
 
     /// What so many first lines come to, where the disk refused the next one, if there is one.
     fn account(&self, answered: usize) -> Result<Account, Fail> {
-        let (done, rest) = self
-            .lines
-            .split_at_checked(answered)
-            .ok_or("too many lines")?;
         let mut account = Account::new(self.alloc, PARTITIONS)?;
-        account.answer_all(done)?;
-        if let Some(refused) = rest.first() {
-            account.refuse(answered, refused)?;
-        }
+        account.answer_some(self.lines.as_slice(), answered)?;
         Ok(account)
-    }
-
-    /// Compares what was printed with the replies, and with a last line where the disk failed.
-    fn check_told(&self, rt: &impl Abort, told: &Told, account: &Account) -> Result<(), Fail> {
-        let mut printed = account.replies().to_vec(self.alloc)?;
-        if told.status == 5 {
-            printed.extend_from_slice(b"refused disk\n")?;
-        }
-        assert_eq!(rt; told.printed(), printed.as_slice());
-        assert_eq!(rt; told.status == 0, count_answered(told) == self.lines.len());
-        Ok(())
     }
 
     /// Restarts what a crash left, and compares it with what may be left. It is played on, and dumped exactly.
@@ -162,12 +138,14 @@ impl Session {
         let told = run(rt, self.alloc, &mut disk, DUMP, b"")?;
         assert_eq!(rt; told.status, 0, "{pick:?}");
         let found = maps_of(self.alloc, PARTITIONS, told.printed())?;
-        for (p, (keys, maps)) in self.keys.iter().zip(found.as_slice()).enumerate() {
-            assert!(rt;
-                account.may_leave(self.lines.as_slice(), p, keys, maps),
-                "{pick:?}"
-            );
-        }
+        assert!(rt;
+            account.may_leave(
+                self.lines.as_slice(),
+                self.keys.as_slice(),
+                found.as_slice()
+            ),
+            "{pick:?}"
+        );
         let mut next = Account::over(self.alloc, found)?;
         next.answer_all(self.more.as_slice())?;
         let told = run(rt, self.alloc, &mut disk, PLAY, MORE.as_bytes())?;
@@ -186,42 +164,44 @@ impl Session {
         account: &Account,
         pick: Pick,
     ) -> Result<(), Fail> {
-        let played = self.play(rt, port, plan)?;
-        let Played { told, disk } = played;
-        self.check_told(rt, &told, account)?;
+        let Played { told, disk } = self.play(rt, port, plan)?;
+        assert_eq!(rt; told.status, 5);
+        told.expect_replies(rt, self.alloc, "the script", account.replies())?;
         self.check_left(rt, account, disk.crash(pick), pick)
     }
 
-    /// One port fails at a call, alone or with all that would follow it. The answer is whether the session came to it.
-    fn check_stop(&self, rt: &impl Abort, port: usize, call: u64) -> Result<bool, Fail> {
+    /// One port fails at a call, alone or with all that would follow it. The answer is how many lines were answered, or
+    /// none where the session does not come to the call.
+    fn check_stop(&self, rt: &impl Abort, port: usize, call: u64) -> Result<Option<usize>, Fail> {
         let first = self.play(rt, port, plan_at(self.alloc, call)?)?;
         if first.disk.faults() == 0 {
             assert_eq!(rt; first.told.status, 0);
-            return Ok(false);
+            return Ok(None);
         }
         assert_eq!(rt; first.told.status, 5, "call {call} of port {port}");
-        let account = self.account(count_answered(&first.told))?;
+        let answered = first.told.answered();
+        let account = self.account(answered)?;
         for pick in [Pick::Least, Pick::Most, Pick::Mix(1)] {
             self.check_plan(rt, port, plan_at(self.alloc, call)?, &account, pick)?;
             self.check_plan(rt, port, plan_from(self.alloc, call), &account, pick)?;
         }
-        Ok(true)
+        Ok(Some(answered))
     }
 
-    /// Each call of a port fails in turn, from a first one on, until the session comes to no more or to a last one.
-    fn check_stops(
-        &self,
-        rt: &impl Abort,
-        port: usize,
-        first: u64,
-        last: u64,
-    ) -> Result<u64, Fail> {
-        for call in first..=last {
-            if !self.check_stop(rt, port, call)? {
-                return Ok(call.saturating_sub(first));
+    /// Each call of a port fails in turn, until the session comes to no more. A later call never stops it earlier. The
+    /// answer is how many calls there are.
+    fn check_stops(&self, rt: &impl Abort, port: usize) -> Result<u64, Fail> {
+        let mut before = 0;
+        for call in 1..1_000u64 {
+            match self.check_stop(rt, port, call)? {
+                None => return Ok(call.saturating_sub(1)),
+                Some(answered) => {
+                    assert!(rt; before <= answered, "call {call} of port {port}");
+                    before = answered;
+                }
             }
         }
-        Ok(last.saturating_sub(first).saturating_add(1))
+        Err("too many calls".into())
     }
 }
 
@@ -243,8 +223,7 @@ fn a_sound_session_is_dumped_exactly(rt: HostRuntime) -> Result<(), Fail> {
     let session = Session::new(alloc)?;
     let account = session.account(session.lines.len())?;
     let Played { told, mut disk } = session.play(&rt, 0, plan_from(alloc, NEVER))?;
-    assert_eq!(&rt; told.status, 0);
-    session.check_told(&rt, &told, &account)?;
+    told.expect(&rt, "the script", 0, account.replies());
     assert!(&rt; count_chunks(&mut disk, Class::Value)? > 4);
     assert!(&rt; count_chunks(&mut disk, Class::Tomb)? > 1);
     assert!(&rt; count_chunks(&mut disk, Class::Clear)? > 2);
@@ -253,10 +232,11 @@ fn a_sound_session_is_dumped_exactly(rt: HostRuntime) -> Result<(), Fail> {
     Ok(())
 }
 
+/// Before a session over an empty folder the root makes its names durable, and lists them.
 #[test]
 fn each_call_of_the_root_may_fail(rt: HostRuntime) -> Result<(), Fail> {
     let session = Session::new(rt.alloc())?;
-    let calls = session.check_stops(&rt, 0, 1, 1_000)?;
+    let calls = session.check_stops(&rt, 0)?;
     assert_eq!(&rt; calls, 2);
     Ok(())
 }
@@ -264,17 +244,16 @@ fn each_call_of_the_root_may_fail(rt: HostRuntime) -> Result<(), Fail> {
 #[test]
 fn each_call_of_a_first_writer_may_fail(rt: HostRuntime) -> Result<(), Fail> {
     let session = Session::new(rt.alloc())?;
-    let calls = session.check_stops(&rt, 1, 1, 1_000)?;
+    let calls = session.check_stops(&rt, 1)?;
     assert!(&rt; calls > 20);
-    assert!(&rt; calls < 1_000);
     Ok(())
 }
 
+/// At least one call for each record of some 500.
 #[test]
 fn each_call_of_a_second_writer_may_fail(rt: HostRuntime) -> Result<(), Fail> {
     let session = Session::new(rt.alloc())?;
-    let calls = session.check_stops(&rt, 2, 1, 1_000)?;
-    assert!(&rt; calls > 500);
-    assert!(&rt; calls < 1_000);
+    let calls = session.check_stops(&rt, 2)?;
+    assert!(&rt; calls > CLEARINGS.saturating_mul(2));
     Ok(())
 }
