@@ -1,6 +1,7 @@
 -- What was done, and what was left alone.
-use Rattle.std.proofs.Common.{◌≡◌, ◌⊎◌, ◌∙◌, ℕ, Bool, true, List, [], Option, refl, inl, inr, subst, sym}
+use Rattle.std.proofs.Common.{◌≡◌, ◌⊎◌, ◌∙◌, ℕ, Bool, true, List, [], Option, refl, inl, inr, subst, sym, arith}
 use Rattle.std.proofs.lemmas.List.{append-nil}
+use Rattle.std.proofs.lemmas.Option.{slice_get_within}
 use Rattle.hr_base.specs.declared.limits.Limits.{Limits}
 use Rattle.hr_edges.specs.Edges.{IsRead, Takes}
 use Rattle.hr_edges.proofs.Writings.{Takes-append}
@@ -31,17 +32,19 @@ then_nothing : (old mid now : Option (List ℕ)) (text : List ℕ) → Takes old
 then_nothing old mid now text first last =
     subst (λ (t : List ℕ). Takes old now t) (append-nil text) (Takes-append old mid now text [] first last)
 
-played_by : (tells : Bool) (partitions : ℕ) (before mid : World) (now : Option (List ℕ)) → RanScript tells partitions before mid Whole → Takes mid.outside.taken now []
-    → WasPlayed tells partitions (read_of before.outside.port) before.left before.outside.taken now
-played_by tells partitions before mid now ran taken =
+played_by : (tells : Bool) (limits : Limits) (before mid : World) (now : Option (List ℕ)) → RanScript tells limits before mid Whole → Takes mid.outside.taken now []
+    → WasPlayed tells limits (read_of before.outside.port) before.left before.outside.taken now
+played_by tells limits before mid now ran taken =
     elim ran.ran [
       | inl none ↦ absurd none.refusal
       | inr session ↦ record {
         lines = ran.lines;
         script = ran.script;
-        maps = session.start.maps;
-        restarted = λ y. (session.started y).maps;
+        start = session.start;
+        started = session.started;
         text = then_nothing before.outside.taken mid.outside.taken now (replies ran.lines session.start.maps) session.text taken;
+        unspent = λ count next spent.
+            session.spends.unspent count next (omega (arith, session.all refl, slice_get_within ran.lines count spent.line spent.there)) spent;
       }
     ]
 
@@ -60,7 +63,7 @@ dumped_by tells partitions old new now wrote taken =
 done_by : (tells : Bool) (command : Command) (before mid : World) (now : Option (List ℕ)) → CameTo tells command before mid (Ended Whole) → Takes mid.outside.taken now []
     → WasDone tells command (read_of before.outside.port) before.left before.outside.taken now
 done_by tells (Play limits) before mid now came taken =
-    elim came [ inl refused ↦ absurd refused.why | inr ran ↦ played_by tells limits.partitions before mid now ran taken ]
+    elim came [ inl refused ↦ absurd refused.why | inr ran ↦ played_by tells limits before mid now ran taken ]
 done_by tells (Dump limits) before mid now came taken = dumped_by tells limits.partitions before.outside mid.outside now came.0 taken
 
 -- the command was done to its end
@@ -78,15 +81,15 @@ done_told tells words before mid now outcome status because heard e =
 -- and its folder restarts
 pub done_restarts : (tells : Bool) (command : Command) (image : Image) (left before now : Option (List ℕ)) → tells ≡ true → WasDone tells command image left before now
     → IsRestartable image (partitions_of command)
-done_restarts tells (Play limits) image left before now y done = (done.restarted y).restartable
+done_restarts tells (Play limits) image left before now y done = (done.started y).maps.restartable
 done_restarts tells (Dump limits) image left before now y done = (done.restarted y).restartable
 
 -- ---- status 8
 
-spent_in : (tells : Bool) (partitions : ℕ) (before mid : World) (now : Option (List ℕ)) (next : ℕ)
-    → tells ≡ true → RanScript tells partitions before mid (Spent next) → Takes mid.outside.taken now (last_line (Ended (Spent next)))
-    → WasSpent partitions (read_of before.outside.port) before.left before.outside.taken now
-spent_in tells partitions before mid now next y ran taken =
+spent_in : (tells : Bool) (limits : Limits) (before mid : World) (now : Option (List ℕ)) (next : ℕ)
+    → tells ≡ true → RanScript tells limits before mid (Spent next) → Takes mid.outside.taken now (last_line (Ended (Spent next)))
+    → WasSpent limits (read_of before.outside.port) before.left before.outside.taken now
+spent_in tells limits before mid now next y ran taken =
     elim ran.ran [
       | inl none ↦ absurd none.refusal
       | inr session ↦ record {
@@ -96,7 +99,9 @@ spent_in tells partitions before mid now next y ran taken =
         started = session.started y;
         count = session.count;
         next = next;
-        spent = session.spent y next refl;
+        spent = session.spends.spent next refl;
+        first = λ earlier other below. session.spends.unspent earlier other below;
+        number = session.number y next refl;
         text = Takes-append before.outside.taken mid.outside.taken now _ (last_line (Ended (Spent next))) session.text taken;
       }
     ]
@@ -105,7 +110,7 @@ spent_by : (tells : Bool) (command : Command) (before mid : World) (now : Option
     → tells ≡ true → CameTo tells command before mid (Ended (Spent next)) → Takes mid.outside.taken now (last_line (Ended (Spent next)))
     → WasSpentBy command (read_of before.outside.port) before.left before.outside.taken now
 spent_by tells (Play limits) before mid now next y came taken =
-    elim came [ inl refused ↦ absurd refused.why | inr ran ↦ spent_in tells limits.partitions before mid now next y ran taken ]
+    elim came [ inl refused ↦ absurd refused.why | inr ran ↦ spent_in tells limits before mid now next y ran taken ]
 spent_by tells (Dump limits) before mid now next y came taken = elim came.0 [ inl none ↦ none.refusal | inr dumped ↦ dumped.text ]
 
 -- the line after those that were answered would need a number that none can have
@@ -163,15 +168,15 @@ read_refused partitions left rest (Ended Memory) why after = absurd (not_after 7
 read_refused partitions left rest (Ended other) why after = absurd why
 read_refused partitions left rest other why after = absurd why
 
-read_ran : (tells : Bool) (partitions : ℕ) (before mid : World) (outcome : Outcome) → RanTo tells partitions before mid outcome → IsRead before.left mid.left
-read_ran tells partitions before mid (Ended ended) ran = ran.read
-read_ran tells partitions before mid other ran = absurd ran
+read_ran : (tells : Bool) (limits : Limits) (before mid : World) (outcome : Outcome) → RanTo tells limits before mid outcome → IsRead before.left mid.left
+read_ran tells limits before mid (Ended ended) ran = ran.read
+read_ran tells limits before mid other ran = absurd ran
 
 read_by : (tells : Bool) (limits : Limits) (before mid : World) (outcome : Outcome) → CameTo tells (Play limits) before mid outcome → IsAfterScript (status_of outcome) → IsRead before.left mid.left
 read_by tells limits before mid outcome came after =
     elim came [
       | inl refused ↦ read_refused limits.partitions before.left mid.left outcome refused.why after
-      | inr ran ↦ read_ran tells limits.partitions before mid outcome ran
+      | inr ran ↦ read_ran tells limits before mid outcome ran
     ]
 
 -- a script that was played, or refused by the folder, was read to its end

@@ -3,3 +3,4 @@ mod Meanings
 mod Outcomes
 mod Refusals
 mod ScriptLaws
+mod Spendings

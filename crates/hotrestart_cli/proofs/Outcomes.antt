@@ -5,7 +5,7 @@ use Rattle.restart_load.specs.declared.ended.Ended.TheVariants.{Whole, Sink, Dis
 use Rattle.restart_load.specs.declared.refusal.RestartRefusal.{RestartRefusal}
 use Rattle.hotrestart_cli.specs.declared.outcome.Outcome.{Outcome}
 use Rattle.hotrestart_cli.specs.declared.outcome.Outcome.TheVariants.{Words, TooLong, BadLine, Input, Ended}
-use Rattle.hotrestart_cli.specs.Outcome.{CanRefuse, CanRefuseFolder, CanRefuseWords, IsEarly, status_of, last_line, Tells, told, no_memory, not_taken, nothing_taken}
+use Rattle.hotrestart_cli.specs.Outcome.{CanRefuse, CanRefuseFolder, CanRefuseNumber, CanRefuseWords, IsEarly, status_of, last_line, Tells, told, no_memory, not_taken, nothing_taken}
 
 -- a status other than 4 and 7 is the outcome's own, and its last line was taken
 pub told_of : (outcome : Outcome) (status : ℕ) (mid now : Option (List ℕ)) → Tells outcome status mid now → (status ≡ 4 → ⊥) → (status ≡ 7 → ⊥)
@@ -147,6 +147,26 @@ wrong_told outcome _ mid now (told t) zero one two eight = wrong_of_status outco
 wrong_told outcome _ mid now (no_memory t) zero one two eight = inr (inr (inr (inr refl)))
 wrong_told outcome _ mid now (not_taken t) zero one two eight = inr (inl refl)
 wrong_told outcome _ mid now (nothing_taken t) zero one two eight = inr (inl refl)
+
+number_of_status : (outcome : Outcome) → (status_of outcome ≡ 0 → ⊥) → (status_of outcome ≡ 1 → ⊥) → (status_of outcome ≡ 2 → ⊥) → (status_of outcome ≡ 6 → ⊥) → CanRefuseNumber (status_of outcome)
+number_of_status (Ended Whole) zero one two six = absurd (zero refl)
+number_of_status Words zero one two six = absurd (one refl)
+number_of_status TooLong zero one two six = absurd (two refl)
+number_of_status (BadLine number) zero one two six = absurd (two refl)
+number_of_status Input zero one two six = inl refl
+number_of_status (Ended Sink) zero one two six = inr (inl refl)
+number_of_status (Ended Disk) zero one two six = inr (inr (inl refl))
+number_of_status (Ended (Load refusal)) zero one two six = absurd (six refl)
+number_of_status (Ended Memory) zero one two six = inr (inr (inr (inl refl)))
+number_of_status (Ended (Spent next)) zero one two six = inr (inr (inr (inr refl)))
+
+-- a script with a line that needs a number which none can have
+pub wanting_told : (outcome : Outcome) (status : ℕ) (mid now : Option (List ℕ)) → Tells outcome status mid now
+    → (status ≡ 0 → ⊥) → (status ≡ 1 → ⊥) → (status ≡ 2 → ⊥) → (status ≡ 6 → ⊥) → CanRefuseNumber status
+wanting_told outcome _ mid now (told t) zero one two six = number_of_status outcome zero one two six
+wanting_told outcome _ mid now (no_memory t) zero one two six = inr (inr (inr (inl refl)))
+wanting_told outcome _ mid now (not_taken t) zero one two six = inr (inl refl)
+wanting_told outcome _ mid now (nothing_taken t) zero one two six = inr (inl refl)
 
 -- a script that has to be refused
 pub unfit_of : (outcome : Outcome) (status : ℕ) (mid now : Option (List ℕ)) → Tells outcome status mid now → CanRefuse (status_of outcome) → CanRefuse status

@@ -63,9 +63,9 @@ unfit_why partitions left rest (Ended Memory) why = inr (inr (inr refl))
 unfit_why partitions left rest (Ended other) why = absurd why
 unfit_why partitions left rest other why = absurd why
 
-unfit_ran : (tells : Bool) (partitions : ℕ) (before mid : World) (outcome : Outcome) → RanTo tells partitions before mid outcome → IsUnfit partitions before.left → ⊥
-unfit_ran tells partitions before mid (Ended ended) ran unfit = unfit_script partitions before.left ran.lines unfit ran.script
-unfit_ran tells partitions before mid other ran unfit = ran
+unfit_ran : (tells : Bool) (limits : Limits) (before mid : World) (outcome : Outcome) → RanTo tells limits before mid outcome → IsUnfit limits.partitions before.left → ⊥
+unfit_ran tells limits before mid (Ended ended) ran unfit = unfit_script limits.partitions before.left ran.lines unfit ran.script
+unfit_ran tells limits before mid other ran unfit = ran
 
 unfit_by : (tells : Bool) (words : List (List ℕ)) (before mid : World) (outcome : Outcome) (limits : Limits)
     → Because tells words before mid outcome → IsCommand words (Play limits) → IsUnfit limits.partitions before.left → CanRefuse (status_of outcome)
@@ -75,7 +75,7 @@ unfit_by tells words before mid outcome limits because meaning unfit =
       | inr m ↦
           elim (means_this words (λ command. CameTo tells command before mid outcome) (Play limits) meaning m) [
             | inl refused ↦ unfit_why limits.partitions before.left mid.left outcome refused.why
-            | inr ran ↦ absurd (unfit_ran tells limits.partitions before mid outcome ran unfit)
+            | inr ran ↦ absurd (unfit_ran tells limits before mid outcome ran unfit)
           ]
     ] where
       wordless : (x : Outcome) → IsRefusedWords words x → CanRefuse (status_of x)

@@ -73,3 +73,8 @@ CanRefuse status = (status ≡ 2) ⊎ (status ≡ 3) ⊎ (status ≡ 4) ⊎ (sta
 -- the statuses that may come where the folder does not restart: 6, unless input, output, disk or memory failed before it was told
 abbrev pub CanRefuseFolder : ℕ → Type 0
 CanRefuseFolder status = (status ≡ 3) ⊎ (status ≡ 4) ⊎ (status ≡ 5) ⊎ (status ≡ 6) ⊎ (status ≡ 7)
+
+-- the statuses that may come where a line needs a number that none can have: 8, unless input, output, disk or memory failed
+-- before it was told
+abbrev pub CanRefuseNumber : ℕ → Type 0
+CanRefuseNumber status = (status ≡ 3) ⊎ (status ≡ 4) ⊎ (status ≡ 5) ⊎ (status ≡ 7) ⊎ (status ≡ 8)

@@ -1,6 +1,7 @@
 -- What the program did.
-use Rattle.std.specs.Prelude.{◌≡◌, ◌⊎◌, ℕ, ◌++◌, Bool, true, List, take, Option, ⊤}
+use Rattle.std.specs.Prelude.{◌≡◌, ◌⊎◌, ℕ, ◌<◌, ◌++◌, Bool, true, List, take, Option, None, Some, ⊤}
 use Rattle.hr_base.specs.Counts.{Rose}
+use Rattle.hr_base.specs.declared.limits.Limits.{Limits}
 use Rattle.hr_base.specs.Entries.{Entries}
 use Rattle.hr_edges.specs.Edges.{IsRead, Takes}
 use Rattle.hr_edges.specs.declared.sink.Sink.{Ghosts as SinkGhosts}
@@ -20,7 +21,7 @@ use Rattle.restart_load.specs.declared.refusal.RestartRefusal.{RestartRefusal}
 use Rattle.restart_load.specs.declared.ended.Ended.{Ended as SessionEnd}
 use Rattle.restart_load.specs.declared.ended.Ended.TheVariants.{Disk, Load, Memory, Spent}
 use Rattle.store_drill.specs.Dumping.{Wrote, flat}
-use Rattle.store_drill.specs.Numbers.{IsSpentAt, Start}
+use Rattle.store_drill.specs.Numbers.{IsEnd, IsSpentAt, Start}
 use Rattle.store_drill.specs.Sessions.{IsStart, Outside, Ran, outside}
 use Rattle.hotrestart_cli.specs.declared.outcome.Outcome.{Outcome}
 use Rattle.hotrestart_cli.specs.declared.outcome.Outcome.TheVariants.{Words, TooLong, BadLine, Ended}
@@ -67,16 +68,16 @@ pub record NotPlayed (partitions : ℕ) (before mid : World) (outcome : Outcome)
   pub same : mid.outside ≡ before.outside
 
 -- The source was read to its end, it was the script of some lines, and the session ran over these.
-pub record RanScript (tells : Bool) (partitions : ℕ) (before mid : World) (ended : SessionEnd) : Type 0 where
+pub record RanScript (tells : Bool) (limits : Limits) (before mid : World) (ended : SessionEnd) : Type 0 where
   pub lines : List Line
-  pub script : IsScriptOf partitions before.left lines
+  pub script : IsScriptOf limits.partitions before.left lines
   pub read : IsRead before.left mid.left
-  pub ran : Ran tells partitions lines before.outside mid.outside ended
+  pub ran : Ran tells limits lines before.outside mid.outside ended
 
 -- so an outcome of a session came about
-abbrev pub RanTo : Bool → ℕ → World → World → Outcome → Type 0
-RanTo tells partitions before mid (Ended ended) = RanScript tells partitions before mid ended
-RanTo tells partitions before mid outcome = ⊥
+abbrev pub RanTo : Bool → Limits → World → World → Outcome → Type 0
+RanTo tells limits before mid (Ended ended) = RanScript tells limits before mid ended
+RanTo tells limits before mid outcome = ⊥
 
 -- so one of a dump did, with no call of the source
 abbrev pub DumpedTo : Bool → ℕ → World → World → Outcome → Type 0
@@ -85,7 +86,7 @@ DumpedTo tells partitions before mid outcome = ⊥
 
 -- what a command came to before the last line
 abbrev pub CameTo : Bool → Command → World → World → Outcome → Type 0
-CameTo tells (Play limits) before mid outcome = NotPlayed limits.partitions before mid outcome ⊎ RanTo tells limits.partitions before mid outcome
+CameTo tells (Play limits) before mid outcome = NotPlayed limits.partitions before mid outcome ⊎ RanTo tells limits before mid outcome
 CameTo tells (Dump limits) before mid outcome = DumpedTo tells limits.partitions before mid outcome
 
 -- Why the program came to this, and what it left before the last line: no command was read, and all is as it was; or
@@ -112,13 +113,14 @@ pub record Served (tells : Bool) (words : List (List ℕ)) (before after : World
 -- ---- what a status says
 
 -- All lines of the script were done, and their replies were taken: those of a plain finite map for each partition, which
--- begins with what the folder restarts to.
-pub record WasPlayed (tells : Bool) (partitions : ℕ) (image : Image) (left before now : Option (List ℕ)) : Type 0 where
+-- begins with what the folder restarts to. No line needed a number that none can have.
+pub record WasPlayed (tells : Bool) (limits : Limits) (image : Image) (left before now : Option (List ℕ)) : Type 0 where
   pub lines : List Line
-  pub script : IsScriptOf partitions left lines
-  pub maps : ℕ → Entries
-  pub restarted : tells ≡ true → AllRestart image partitions maps
-  pub text : Takes before now (replies lines maps)
+  pub script : IsScriptOf limits.partitions left lines
+  pub start : Start
+  pub started : tells ≡ true → IsStart image limits.partitions start
+  pub text : Takes before now (replies lines start.maps)
+  pub unspent : (count next : ℕ) → ¬ IsSpentAt limits lines count start next
 
 -- All entries of the maps that the folder restarts to were taken.
 pub record WasDumped (tells : Bool) (partitions : ℕ) (image : Image) (before now : Option (List ℕ)) : Type 0 where
@@ -128,7 +130,7 @@ pub record WasDumped (tells : Bool) (partitions : ℕ) (image : Image) (before n
 
 -- the command was done to its end
 abbrev pub WasDone : Bool → Command → Image → Option (List ℕ) → Option (List ℕ) → Option (List ℕ) → Type 0
-WasDone tells (Play limits) image left before now = WasPlayed tells limits.partitions image left before now
+WasDone tells (Play limits) image left before now = WasPlayed tells limits image left before now
 WasDone tells (Dump limits) image left before now = WasDumped tells limits.partitions image before now
 
 -- The command's script was refused, and told so: as too long, or by the number of its first bad line.
@@ -149,24 +151,42 @@ pub record WasUnloadable (partitions : ℕ) (image : Image) (before now : Option
   pub first : IsRefusedFor image partitions refusal
   pub text : Takes before now (last_line (Ended (Load refusal)))
 
--- Some lines of the script were answered, and the next one would have needed a number that none can have.
-pub record WasSpent (partitions : ℕ) (image : Image) (left before now : Option (List ℕ)) : Type 0 where
+-- Some lines of the script were answered, and the next one is the first that needs a number which none can have.
+pub record WasSpent (limits : Limits) (image : Image) (left before now : Option (List ℕ)) : Type 0 where
   pub lines : List Line
-  pub script : IsScriptOf partitions left lines
+  pub script : IsScriptOf limits.partitions left lines
   pub start : Start
-  pub started : IsStart image partitions start
+  pub started : IsStart image limits.partitions start
   pub count : ℕ
   pub next : ℕ
-  pub spent : IsSpentAt lines count start next
+  pub spent : IsSpentAt limits lines count start next
+  pub first : (earlier other : ℕ) → earlier < count → ¬ IsSpentAt limits lines earlier start other
+  pub number : IsEnd next
   pub text : Takes before now (replies (take count lines) start.maps ++ last_line (Ended (Spent next)))
 
 abbrev pub WasSpentBy : Command → Image → Option (List ℕ) → Option (List ℕ) → Option (List ℕ) → Type 0
-WasSpentBy (Play limits) image left before now = WasSpent limits.partitions image left before now
+WasSpentBy (Play limits) image left before now = WasSpent limits image left before now
 WasSpentBy (Dump limits) image left before now = ⊥
 
 -- no line of the script would need a number that none can have
-abbrev pub NeverSpent : ℕ → Image → Option (List ℕ) → Type 0
-NeverSpent partitions image left = (lines : List Line) (start : Start) (count next : ℕ) → IsScriptOf partitions left lines → IsStart image partitions start → ¬ IsSpentAt lines count start next
+abbrev pub NeverSpent : Limits → Image → Option (List ℕ) → Type 0
+NeverSpent limits image left = (lines : List Line) (start : Start) (count next : ℕ) → IsScriptOf limits.partitions left lines → IsStart image limits.partitions start
+    → ¬ IsSpentAt limits lines count start next
+
+-- The folder restarts, and some line of the script of these bytes needs a number that none can have.
+pub record SpendsIn (limits : Limits) (image : Image) (bytes : List ℕ) : Type 0 where
+  pub lines : List Line
+  pub script : IsScriptOf limits.partitions (Some bytes) lines
+  pub start : Start
+  pub started : IsStart image limits.partitions start
+  pub count : ℕ
+  pub next : ℕ
+  pub spent : IsSpentAt limits lines count start next
+
+-- and the source tells that these are its bytes
+abbrev pub WillSpend : Limits → Image → Option (List ℕ) → Type 0
+WillSpend limits image None = ⊥
+WillSpend limits image (Some bytes) = SpendsIn limits image bytes
 
 -- the command reads no script that has to be refused
 abbrev pub ReadsNothingUnfit : Command → Option (List ℕ) → Type 0
@@ -176,5 +196,5 @@ ReadsNothingUnfit (Dump limits) left = ⊤
 -- nothing stands against the command: its script can be played, and needs no number that none can have, and the folder
 -- restarts
 abbrev pub CanBegin : Command → Image → Option (List ℕ) → Type 0
-CanBegin (Play limits) image left = IsFit limits.partitions left × NeverSpent limits.partitions image left × IsRestartable image limits.partitions
+CanBegin (Play limits) image left = IsFit limits.partitions left × NeverSpent limits image left × IsRestartable image limits.partitions
 CanBegin (Dump limits) image left = IsRestartable image limits.partitions

@@ -13,9 +13,9 @@ ghost use Rattle.restart_load.specs.Refusals.{IsRefusedFor, SpeaksOfContent};
 ghost use Rattle.restart_load.specs.declared.ended.Ended.{Ended};
 ghost use Rattle.restart_load.specs.declared.refusal.RestartRefusal.{RestartRefusal};
 ghost use Rattle.hotrestart_cli.specs.declared.outcome.Outcome.{Outcome};
-ghost use Rattle.hotrestart_cli.specs.Outcome.{IsTellable, IsEarly, CanRefuse, CanRefuseFolder, CanRefuseWords};
+ghost use Rattle.hotrestart_cli.specs.Outcome.{IsTellable, IsEarly, CanRefuse, CanRefuseFolder, CanRefuseNumber, CanRefuseWords};
 ghost use Rattle.hotrestart_cli.specs.Scripts.{IsFit, IsUnfit};
-ghost use Rattle.hotrestart_cli.specs.Served.{Because, CameTo, CanBegin, IsNoCommand, Means, ReadsNothingUnfit, Served, WasDone, WasRefused, WasSpentBy, WasUnloadable, partitions_of, world};
+ghost use Rattle.hotrestart_cli.specs.Served.{Because, CameTo, CanBegin, IsNoCommand, Means, ReadsNothingUnfit, Served, WasDone, WasRefused, WasSpentBy, WasUnloadable, WillSpend, partitions_of, world};
 
 use crate::outcome::Outcome;
 use crate::script::read_lines;
@@ -138,9 +138,13 @@ pub fn serve<F: Folder, S: Source, K: Sink>(
         → Means (texts_of words.now) (λ command. WasUnloadable (partitions_of command) (read_of (F.port folder.old)) (K.taken out.old) (K.taken out.new)) }
     ensures loaded { F.tells ≡ true → (command : Command) → IsCommand (texts_of words.now) command → ReadsNothingUnfit command (S.left input.old)
         → (refusal : RestartRefusal) → SpeaksOfContent refusal → IsRefusedFor (read_of (F.port folder.old)) (partitions_of command) refusal → CanRefuseFolder result }
-    // Status 8: after the lines that were answered the next one would need a number that none can have, and that is told.
+    // Status 8: the line after those that were answered is the first that needs a number which none can have, and that is
+    // told.
     ensures spent { F.tells ≡ true → result ≡ 8
         → Means (texts_of words.now) (λ command. WasSpentBy command (read_of (F.port folder.old)) (S.left input.old) (K.taken out.old) (K.taken out.new)) }
+    // A script with such a line is never played to its end.
+    ensures wanting { F.tells ≡ true → (limits : Limits) → IsCommand (texts_of words.now) (Command.Play limits) → WillSpend limits (read_of (F.port folder.old)) (S.left input.old)
+        → CanRefuseNumber result }
 {
     let outcome = run(alloc, words, folder, input, out);
     tell(alloc, outcome, out)

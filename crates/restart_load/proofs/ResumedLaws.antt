@@ -173,6 +173,7 @@ module _ (tells : Bool) (limits : Limits) (port : Port) (names : List ChunkName)
         whole = one.whole;
         records = one.records;
         faults = one.faults;
+        lanes = one.lanes;
         files = one.files;
         next = λ y. (told y p s is below).0;
         next_chunk = λ y. (told y p s is below).1;

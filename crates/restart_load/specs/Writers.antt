@@ -3,6 +3,7 @@ use Rattle.std.specs.Prelude.{◌≡◌, ◌⊎◌, ℕ, ◌+◌, ◌<◌, ◌�
 use Rattle.hr_base.specs.declared.limits.Limits.{Limits}
 use Rattle.hr_base.specs.declared.limits.TheConstants.{CHUNK_NO_END}
 use Rattle.hr_base.specs.declared.name.ChunkName.{ChunkName}
+use Rattle.hr_base.specs.declared.name.Class.{Class}
 use Rattle.hr_base.specs.declared.name.Named.{Ghosts as NamedGhosts}
 use Rattle.hr_base.specs.Names.{class_of_kind}
 use Rattle.dir_files.specs.declared.folder.Folder.{Ghosts as FolderGhosts}
@@ -10,7 +11,8 @@ use Rattle.dir_files.specs.Images.{Image}
 use Rattle.crash_law.specs.Accounts.{fresh_account}
 use Rattle.crash_law.specs.Restarts.{Fact}
 use Rattle.record_replay.specs.Replays.{IsNext}
-use Rattle.writer_files.specs.Stocks.{files_of}
+use Rattle.writer_chunks.specs.Lanes.{empty_lane}
+use Rattle.writer_files.specs.Stocks.{files_of, lane_of}
 use Rattle.partition_writer.specs.declared.writer.Writer.{Writer}
 use Rattle.partition_writer.specs.Standing.{Beginning, Standing, Stands, writer_kind}
 use Rattle.partition_writer.specs.WriterViews.{standing}
@@ -46,8 +48,8 @@ pub record IsNextChunk (image : Image) (p next : ℕ) : Type 0 where
 abbrev pub beginning_of : Image → Standing → Beginning
 beginning_of image s = record { found = image; maps = s.maps; first = s.next; first_chunk = s.next_chunk }
 
--- A writer of the partition that goes on from these files and has done nothing yet. Where the folder tells its content,
--- it has no file of its own, its maps are those that the files restart to, all of them durable, and its numbers go on
+-- A writer of the partition that goes on from these files, has done nothing yet and has no chunk in hand. Where the
+-- folder tells its content, it has no file of its own, its maps are those that the files restart to, all of them durable, and its numbers go on
 -- from theirs.
 pub record IsResumed (tells : Bool) (limits : Limits) (image : Image) (p : ℕ) (s : Standing) : Type 0 where
   pub number : s.partition.0 ≡ p
@@ -56,6 +58,8 @@ pub record IsResumed (tells : Bool) (limits : Limits) (image : Image) (p : ℕ) 
   pub whole : s.lost ≡ false
   pub records : s.records ≡ []
   pub faults : s.faults ≡ 0
+  -- no chunk is in hand
+  pub lanes : (class : Class) → lane_of s.stock class ≡ empty_lane class
   pub files : tells ≡ true → (name : ChunkName) → files_of s.stock name ≡ None
   pub next : tells ≡ true → IsNext (Fact image p) s.next
   pub next_chunk : tells ≡ true → IsNextChunk image p s.next_chunk

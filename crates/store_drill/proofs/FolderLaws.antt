@@ -1,5 +1,5 @@
 -- What the writers of a session begin with, how they are closed, and what they leave in the folder.
-use Rattle.std.specs.Prelude.{◌≡◌, ◌⊎◌, ℕ, ◌+◌, ◌-◌, ◌<◌, ◌≤◌, ◌^◌, min, Bool, true, false, ◌&&◌, ◌||◌, not, is_some, List, [], ◌∷◌, ◌++◌, length, Option, Some, None, slice_get, slice_index_or, refl}
+use Rattle.std.specs.Prelude.{◌≡◌, ◌⊎◌, ℕ, ◌+◌, ◌-◌, ◌<◌, ◌≤◌, ◌^◌, min, Bool, true, false, ◌&&◌, ◌||◌, not, is_some, List, [], ◌∷◌, ◌++◌, length, Option, Some, None, slice_get, refl}
 use Rattle.std.specs.Option.{option_map}
 use Rattle.std.specs.FinMap.{empty}
 use Rattle.std.proofs.Common.{sym, ◌∙◌, ap, subst, inl, inr, arith, append_assoc}
@@ -19,6 +19,8 @@ use Rattle.crash_law.proofs.PartLaws.{all_restart, all_survive, part_restarts, p
 use Rattle.crash_law.proofs.WriterLaws.{stand_exact, stand_survives}
 use Rattle.record_replay.specs.Replays.{IsNext}
 use Rattle.script_text.specs.declared.line.Line.{Line}
+use Rattle.value_chunk.specs.Chunks.{Chunk}
+use Rattle.writer_chunks.specs.Lanes.{LaneState}
 use Rattle.writer_files.specs.Stocks.{files_of}
 use Rattle.partition_writer.specs.Standing.{Beginning, Standing, Stands, all_files, start_of, written}
 use Rattle.restart_load.specs.Ends.{ended_of_restart}
@@ -27,13 +29,14 @@ use Rattle.restart_load.specs.Writers.{AreResumed, EachIs, IsNextChunk, beginnin
 use Rattle.restart_load.specs.declared.refusal.RestartRefusal.{RestartRefusal}
 use Rattle.restart_load.specs.declared.refusal.RestartRefusal.TheVariants as refusal
 use Rattle.restart_load.specs.declared.ended.Ended.{Ended}
-use Rattle.restart_load.specs.declared.ended.Ended.TheVariants.{Disk, Load}
+use Rattle.restart_load.specs.declared.ended.Ended.TheVariants.{Load}
 use Rattle.hr_base.specs.declared.limits.Limits.{Limits}
 use Rattle.store_drill.specs.Accounts.{accounts_at}
-use Rattle.store_drill.specs.Numbers.{Start}
+use Rattle.store_drill.specs.Numbers.{Start, numbers_at}
 use Rattle.store_drill.specs.Playing.{Played}
 use Rattle.store_drill.specs.Sessions.{IsRefusal, IsStart, NotBegun, Outside, Ran, Session}
-use Rattle.store_drill.specs.Writers.{AllBegin, Begins, EachFits, HasNumber, HaveStart, IsApart, IsLimited, IsWhole, OwnsFiles, Runs, StandsAt, faults_of, files_at, files_in}
+use Rattle.store_drill.specs.Writers.{AllBegin, EachFits, HasLimits, HasMaps, HasNumber, HaveStart, IsApart, IsLimited, IsWhole, OwnsFiles, StandsAt, faults_of, files_at, files_in, numbers_of}
+use Rattle.store_drill.proofs.StepLaws.{same_numbers}
 use Rattle.store_drill.proofs.WriterListLaws.{get_at_end}
 
 none_unless : {A : Type 0} (o : Option A) → ((x : A) → o ≡ Some x → ⊥) → o ≡ None
@@ -186,11 +189,17 @@ started writers = record {
 abbrev pub begins_of : Image → Start → ℕ → Beginning
 begins_of image start p = record { found = image; maps = start.maps p; first = start.next p; first_chunk = start.next_chunk p }
 
-pub have_started : (writers : List Standing) → HaveStart writers (started writers)
-have_started writers = record {
-  maps = λ p s is. sym (ap maps_in is);
-  next = λ p s is. sym (ap next_in is);
-  next_chunk = λ p s is. sym (ap next_chunk_in is);
+pub have_maps : (writers : List Standing) → EachFits HasMaps writers (started writers).maps
+have_maps writers p s is = sym (ap maps_in is)
+
+-- no chunk is in hand yet
+pub have_started : (tells : Bool) (image : Image) (limits : Limits) (writers : List Standing) → AllBegin tells image writers → EachIs (HasLimits limits) writers → HaveStart limits writers (started writers)
+have_started tells image limits writers begun limited = record {
+  limited = limited;
+  maps = have_maps writers;
+  numbers = λ p s is.
+      same_numbers (numbers_of s) (numbers_at (started writers) p) (sym (ap next_in is)) (sym (ap next_chunk_in is))
+      (λ class. ap (λ (lane : LaneState). option_map (λ (chunk : Chunk). chunk.size) lane.taking) ((begun p s is).lanes class));
 }
 
 abbrev begins_in : Image → Option Standing → Beginning
@@ -331,29 +340,32 @@ module _ (tells : Bool) (lines : List Line) (old : Port) (begun writers : List S
   played_numbers = played.numbers (λ p s is. (all p s is).number)
 
 -- the writers were closed over the folder that was restarted
-pub session_ran : (tells : Bool) (lines : List Line) (begun writers : List Standing) (old new : Outside) (ended : Ended) (all : AllBegin tells (read_of old.port) begun)
-    → (tells ≡ true → IsRestartable (read_of old.port) (length begun)) → (tells ≡ true → IsAtRest old.port) → Played tells lines begun writers old.taken new.taken ended → length writers ≡ length begun
+pub session_ran : (tells : Bool) (limits : Limits) (lines : List Line) (begun writers : List Standing) (old new : Outside) (ended : Ended) (all : AllBegin tells (read_of old.port) begun)
+    → EachIs (HasLimits limits) begun → length begun ≡ limits.partitions
+    → (tells ≡ true → IsRestartable (read_of old.port) limits.partitions) → (tells ≡ true → IsAtRest old.port) → Played tells lines begun writers old.taken new.taken ended → length writers ≡ length begun
     → (tells ≡ true → IsGivenBack new.port) → (tells ≡ true → (name : ChunkName) → new.port.held name ≡ either_file (old.port.held name) (files_at writers name))
-    → Session tells (length begun) lines old new ended
-session_ran tells lines begun writers old new ended all restartable rest played same given_back held =
+    → Session tells limits lines old new ended
+session_ran tells limits lines begun writers old new ended all limited parts restartable rest played same given_back held =
     let start : Start = started begun in
-    let have : HaveStart begun start = have_started begun in
+    let have : HaveStart limits begun start = have_started tells (read_of old.port) limits begun all limited in
     let accounts : ℕ → Account = accounts_at ended lines played.count (λ p. fresh_account (start.maps p)) in
     record {
       start = start;
-      started = λ y. begun_start tells (read_of old.port) begun all y (restartable y);
+      started = λ y.
+          subst (λ (partitions : ℕ). IsStart (read_of old.port) partitions start) parts
+          (begun_start tells (read_of old.port) begun all y (subst (λ (partitions : ℕ). IsRestartable (read_of old.port) partitions) (sym parts) (restartable y)));
       count = played.count;
       within = played.within;
       all = played.all;
       text = played.text start.maps have.maps;
-      limited = λ y. played.limited (begun_limited tells (read_of old.port) begun all y) start have;
-      spent = λ y. played.spent (begun_limited tells (read_of old.port) begun all y) start have;
+      spends = played.spends limits start have;
+      number = λ y. played.number (begun_limited tells (read_of old.port) begun all y);
       survives = λ y.
-          all_left old.port start writers accounts (played_stand tells lines old.port begun writers old.taken new.taken ended all played y) (length begun) (rest y) (restartable y)
-          (played_numbers tells lines old.port begun writers old.taken new.taken ended all played) same new.port (given_back y) (held y);
+          all_left old.port start writers accounts (played_stand tells lines old.port begun writers old.taken new.taken ended all played y) limits.partitions (rest y) (restartable y)
+          (played_numbers tells lines old.port begun writers old.taken new.taken ended all played) (same ∙ parts) new.port (given_back y) (held y);
       exact = λ y other.
-          all_read old.port start writers accounts (played_stand tells lines old.port begun writers old.taken new.taken ended all played y) (length begun) (rest y) (restartable y)
-          (played_numbers tells lines old.port begun writers old.taken new.taken ended all played) same new.port (given_back y) (held y) (played.whole other);
+          all_read old.port start writers accounts (played_stand tells lines old.port begun writers old.taken new.taken ended all played y) limits.partitions (rest y) (restartable y)
+          (played_numbers tells lines old.port begun writers old.taken new.taken ended all played) (same ∙ parts) new.port (given_back y) (held y) (played.whole other);
     }
 
 -- ---- a folder that was restarted
@@ -370,29 +382,34 @@ begun_resumed tells limits old mid writers keeps resumed p s is =
       number = one.number;
       runs = record { running = one.running; whole = one.whole };
       faults = one.faults;
+      lanes = one.lanes;
       files = one.files;
       next = λ y. subst (λ (image : Image). IsNext (Fact image p) s.next) (sym (one_image (read_of mid) (read_of old) (keeps y).read)) (one.next y);
       next_chunk = λ y. subst (λ (image : Image). IsNextChunk image p s.next_chunk) (sym (one_image (read_of mid) (read_of old) (keeps y).read)) (one.next_chunk y);
       account = λ y. subst (λ (image : Image). Stands s (beginning_of image s) (fresh_account s.maps)) (sym (one_image (read_of mid) (read_of old) (keeps y).read)) (one.account y);
     }
 
+-- with the limits that were asked for
+pub begun_within : (tells : Bool) (limits : Limits) (image : Image) (writers : List Standing) → AreResumed tells limits image writers → EachIs (HasLimits limits) writers
+begun_within tells limits image writers resumed p s is = (resumed p s is).limited
+
 pub restartable_since : (old mid : Port) (partitions : ℕ) → KeepsImages old mid → IsRestartable (read_of old) partitions → IsRestartable (read_of mid) partitions
 restartable_since old mid partitions keeps restartable =
     subst (λ (image : Image). IsRestartable image partitions) (sym (one_image (read_of mid) (read_of old) keeps.read)) restartable
 
 -- and a session over it began with what the folder restarted to
-pub ran_after : (tells : Bool) (partitions : ℕ) (lines : List Line) (old mid : Port) (faults more : ℕ) (taken : Option (List ℕ)) (new : Outside) (ended : Ended)
-    → (tells ≡ true → KeepsImages old mid) → Session tells partitions lines (record { port = mid; faults = more; taken = taken }) new ended
-    → Ran tells partitions lines (record { port = old; faults = faults; taken = taken }) new ended
-ran_after tells partitions lines old mid faults more taken new ended keeps session = inr (record {
+pub ran_after : (tells : Bool) (limits : Limits) (lines : List Line) (old mid : Port) (faults more : ℕ) (taken : Option (List ℕ)) (new : Outside) (ended : Ended)
+    → (tells ≡ true → KeepsImages old mid) → Session tells limits lines (record { port = mid; faults = more; taken = taken }) new ended
+    → Ran tells limits lines (record { port = old; faults = faults; taken = taken }) new ended
+ran_after tells limits lines old mid faults more taken new ended keeps session = inr (record {
   start = session.start;
-  started = λ y. subst (λ (image : Image). IsStart image partitions session.start) (one_image (read_of mid) (read_of old) (keeps y).read) (session.started y);
+  started = λ y. subst (λ (image : Image). IsStart image limits.partitions session.start) (one_image (read_of mid) (read_of old) (keeps y).read) (session.started y);
   count = session.count;
   within = session.within;
   all = session.all;
   text = session.text;
-  limited = session.limited;
-  spent = session.spent;
+  spends = session.spends;
+  number = session.number;
   survives = session.survives;
   exact = session.exact;
 })

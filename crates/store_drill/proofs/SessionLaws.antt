@@ -1,10 +1,10 @@
 -- One more line of a session.
-use Rattle.std.specs.Prelude.{◌≡◌, ◌⊎◌, ℕ, ◌+◌, ◌<◌, ◌≤◌, ◌^◌, Bool, true, false, List, [], ◌∷◌, ◌++◌, length, take, Option, Some, None, slice_get, slice_set, slice_index_or, refl, zero, suc}
+use Rattle.std.specs.Prelude.{◌≡◌, ◌⊎◌, ℕ, ◌+◌, ◌<◌, ◌≤◌, Bool, true, List, [], ◌∷◌, ◌++◌, length, take, Option, Some, None, slice_get, slice_index_or, refl, zero, suc}
 use Rattle.std.proofs.Common.{sym, ◌∙◌, ap, subst, inl, inr, arith, append_assoc}
 use Rattle.std.proofs.lemmas.List.{append-nil, length-set, take_more, take_all}
-use Rattle.std.proofs.lemmas.Option.{slice_get_cases, slice_get_within}
+use Rattle.std.proofs.lemmas.Option.{same_Some, slice_get_within}
 use Rattle.hr_base.specs.Counts.{Rose}
-use Rattle.hr_base.specs.declared.limits.TheConstants.{SEQ_END, CHUNK_NO_END}
+use Rattle.hr_base.specs.declared.limits.Limits.{Limits}
 use Rattle.hr_base.specs.declared.name.Partition.{Partition}
 use Rattle.hr_base.specs.Entries.{Entries}
 use Rattle.hr_edges.specs.Edges.{Takes, TakesFront, TakesAtLeast}
@@ -15,15 +15,16 @@ use Rattle.script_text.specs.Lines.{partition_of}
 use Rattle.script_text.specs.Replies.{changed_at, replies, text_after, maps_after_line, maps_after_one, maps_after_lines}
 use Rattle.partition_writer.specs.Standing.{Beginning, Standing, Stands}
 use Rattle.restart_load.specs.Writers.{EachIs}
-use Rattle.restart_load.specs.declared.ended.Ended.{Ended}
 use Rattle.restart_load.specs.declared.ended.Ended.TheVariants.{Whole, Sink, Disk, Memory}
 use Rattle.restart_load.specs.declared.ended.Ended.TheVariants as ends
 use Rattle.store_drill.specs.declared.step.Step.{Step}
 use Rattle.store_drill.specs.declared.step.Step.TheVariants.{Spent}
 use Rattle.store_drill.specs.Accounts.{account_after_line, accounts_after_lines, account_after_refused, accounts_after_refused}
-use Rattle.store_drill.specs.Numbers.{IsSpentAt, Start, next_after_line, next_after_lines, next_after_one, writes_line}
-use Rattle.store_drill.specs.Writers.{EachFits, HasMaps, HasNext, HasNumber, HaveStart, IsLimited, IsWhole, Runs, StandsAt, faults_of}
-use Rattle.store_drill.specs.Playing.{Counts, GoesOn, IsSpent, Plays, PlaysAmong, Played}
+use Rattle.store_drill.specs.Numbers.{IsEnd, IsSpentAt, Numbers, Start, numbers_after, numbers_after_lines, numbers_after_one, numbers_at, wanting, written_for}
+use Rattle.store_drill.specs.Writers.{AreLimited, EachFits, HasLimits, HasMaps, HasNumber, HasNumbers, HaveStart, IsLimited, IsWhole, Runs, StandsAt, faults_of, numbers_of}
+use Rattle.store_drill.specs.Playing.{Counts, GoesOn, PlaysAmong, Played, needed}
+use Rattle.store_drill.proofs.NumberLaws.{numbers_after_lines-push, wanting_end, within_limits}
+use Rattle.store_drill.proofs.StepLaws.{none_unless}
 use Rattle.store_drill.proofs.WriterListLaws.{each_changed, each_is_changed, each_kept, faults_at}
 
 -- ---- one more line, as it is defined
@@ -45,27 +46,19 @@ accounts_after_lines-push : (lines : List Line) (line : Line) (a : ℕ → Accou
 accounts_after_lines-push [] line a = refl
 accounts_after_lines-push (x ∷ xs) line a = accounts_after_lines-push xs line (accounts_after_one x a)
 
-next_after_lines-push : (lines : List Line) (line : Line) (m : ℕ → Entries) (n : ℕ → ℕ)
-    → next_after_lines (lines ++ line ∷ []) m n ≡ next_after_one line (maps_after_lines lines m) (next_after_lines lines m n)
-next_after_lines-push [] line m n = refl
-next_after_lines-push (x ∷ xs) line m n = next_after_lines-push xs line (maps_after_one x m) (next_after_one x m n)
-
 same_next : (a b : ℕ) → ends.Spent a ≡ ends.Spent b → a ≡ b
 same_next a b e = cc
 
 -- ---- where a session stands
-
--- a writer began no more chunks than it used numbers
-abbrev BeginsFew : ℕ → Start → Standing → Type 0
-BeginsFew p start s = s.next_chunk + start.next p ≤ start.next_chunk p + s.next
 
 -- where the writers stand after the first lines
 pub record Going (tells : Bool) (lines : List Line) (count : ℕ) (old new : List Standing) : Type 0 where
   pub same : length new ≡ length old
   pub maps : (m : ℕ → Entries) → EachFits HasMaps old m → EachFits HasMaps new (maps_after_lines (take count lines) m)
   pub numbers : EachFits HasNumber old (λ p. p) → EachFits HasNumber new (λ p. p)
-  pub next : (start : Start) → HaveStart old start → EachFits HasNext new (next_after_lines (take count lines) start.maps start.next)
-  pub chunks : (start : Start) → HaveStart old start → EachFits BeginsFew new (λ p. start)
+  pub limits : (limits : Limits) → EachIs (HasLimits limits) old → EachIs (HasLimits limits) new
+  pub counted : (limits : Limits) (start : Start) → HaveStart limits old start → EachFits HasNumbers new (numbers_after_lines limits (take count lines) start.maps (numbers_at start))
+  pub unspent : (limits : Limits) (start : Start) → HaveStart limits old start → (i next : ℕ) → i < count → ¬ IsSpentAt limits lines i start next
   pub limited : EachIs IsLimited old → EachIs IsLimited new
   pub runs : EachIs Runs new
   pub account : tells ≡ true → (begins : ℕ → Beginning) (a : ℕ → Account) → EachFits (StandsAt begins) old a → EachFits (StandsAt begins) new (accounts_after_lines (take count lines) a)
@@ -82,8 +75,9 @@ SoFar-none tells lines writers before runs = record {
     same = refl;
     maps = λ m each. each;
     numbers = λ each. each;
-    next = λ start have. have.next;
-    chunks = λ start have p s is. omega (arith, have.next p s is, have.next_chunk p s is);
+    limits = λ limits each. each;
+    counted = λ limits start have. have.numbers;
+    unspent = λ limits start have i next below spent. omega (arith, below);
     limited = λ each. each;
     runs = runs;
     account = λ y begins a each. each;
@@ -130,22 +124,34 @@ module _ (tells : Bool) (step : Step) (line : Line) (old new : List Standing) (t
       (each_changed HasMaps old m (partition_of line) plays.after (maps_after_line line (m (partition_of line))) each
       (on ∙ ap (maps_after_line line) (each (partition_of line) plays.before at)))
 
-  pub next_goes : (m : ℕ → Entries) (n : ℕ → ℕ) → EachFits HasMaps old m → EachFits HasNext old n → Counts line plays.before plays.after → EachFits HasNext new (next_after_one line m n)
-  next_goes m n maps each on =
-      subst (λ (writers : List Standing). EachFits HasNext writers (next_after_one line m n)) (sym plays.changed)
-      (each_changed HasNext old n (partition_of line) plays.after (next_after_line line (m (partition_of line)) (n (partition_of line))) each
-      (on.next ∙ ap (λ (maps : Entries). next_after_line line maps plays.before.next) (maps (partition_of line) plays.before at)
-      ∙ ap (next_after_line line (m (partition_of line))) (each (partition_of line) plays.before at)))
+  pub limits_go : (limits : Limits) → EachIs (HasLimits limits) old → Counts line plays.before plays.after → EachIs (HasLimits limits) new
+  limits_go limits each on =
+      subst (λ (writers : List Standing). EachIs (HasLimits limits) writers) (sym plays.changed)
+      (each_is_changed (HasLimits limits) old (partition_of line) plays.after each (on.limits ∙ each (partition_of line) plays.before at))
 
-  pub chunks_go : (start : Start) → EachFits BeginsFew old (λ q. start) → Counts line plays.before plays.after → EachFits BeginsFew new (λ q. start)
-  chunks_go start each on =
-      subst (λ (writers : List Standing). EachFits BeginsFew writers (λ q. start)) (sym plays.changed)
-      (each_kept BeginsFew old (λ q. start) (partition_of line) plays.after each (omega (arith, each (partition_of line) plays.before at, on.chunks)))
+  module _ (limits : Limits) (m : ℕ → Entries) (n : ℕ → Numbers) (have : EachIs (HasLimits limits) old) (maps : EachFits HasMaps old m) (numbers : EachFits HasNumbers old n) where
+    -- what its writer counts with is what is said of it
+    counted_with : {A : Type 0} (f : Limits → Numbers → Entries → A) → f plays.before.limits (numbers_of plays.before) plays.before.maps ≡ f limits (n (partition_of line)) (m (partition_of line))
+    counted_with f =
+        ap (λ (l : Limits). f l (numbers_of plays.before) plays.before.maps) (have (partition_of line) plays.before at)
+        ∙ ap (λ (k : Numbers). f limits k plays.before.maps) (numbers (partition_of line) plays.before at)
+        ∙ ap (λ (e : Entries). f limits (n (partition_of line)) e) (maps (partition_of line) plays.before at)
 
-  pub limits_stay : EachIs IsLimited old → Counts line plays.before plays.after → EachIs IsLimited new
-  limits_stay each on =
+    pub needed_with : needed line plays.before ≡ wanting limits (n (partition_of line)) (written_for line (m (partition_of line)))
+    needed_with = counted_with (λ l k e. wanting l k (written_for line e))
+
+    pub counted_go : Counts line plays.before plays.after → EachFits HasNumbers new (numbers_after_one limits line m n)
+    counted_go on =
+        subst (λ (writers : List Standing). EachFits HasNumbers writers (numbers_after_one limits line m n)) (sym plays.changed)
+        (each_changed HasNumbers old n (partition_of line) plays.after (numbers_after limits (n (partition_of line)) (written_for line (m (partition_of line)))) numbers
+        (on.numbers ∙ counted_with (λ l k e. numbers_after l k (written_for line e))))
+
+  pub limited_go : EachIs IsLimited old → needed line plays.before ≡ None → Counts line plays.before plays.after → EachIs IsLimited new
+  limited_go each none on =
       subst (λ (writers : List Standing). EachIs IsLimited writers) (sym plays.changed)
-      (each_is_changed IsLimited old (partition_of line) plays.after each (on.limited (each (partition_of line) plays.before at)))
+      (each_is_changed IsLimited old (partition_of line) plays.after each
+      (subst AreLimited (sym on.numbers)
+      (within_limits plays.before.limits (numbers_of plays.before) (written_for line plays.before.maps) none (each (partition_of line) plays.before at))))
 
   pub all_run : EachIs Runs old → GoesOn plays.before plays.after → EachIs Runs new
   all_run each on =
@@ -160,18 +166,6 @@ module _ (tells : Bool) (step : Step) (line : Line) (old new : List Standing) (t
 
 whole_all : (writers : List Standing) → EachIs Runs writers → EachIs IsWhole writers
 whole_all writers each q s is = (each q s is).whole
-
--- a writer that is there has used no number that none can have
-limited_at : (writers : List Standing) (n : ℕ → ℕ) → EachIs IsLimited writers → EachFits HasNext writers n → (p : ℕ) → p < length writers → n p ≤ SEQ_END
-limited_at writers n limited each p below = there (slice_get_cases writers p).1 where
-  there : ((s : Standing) × (p < length writers) × (slice_get writers p ≡ Some s) × (slice_index_or writers p s ≡ s)) ⊎ ((length writers ≤ p) × (slice_get writers p ≡ None)) → n p ≤ SEQ_END
-  there h = elim h [ inl one ↦ omega (arith, (limited p one.0 one.2).next, each p one.0 one.2) | inr past ↦ absurd (omega (arith, past.0, below)) ]
-
--- the numbers that the answered lines used are within their limits
-pub limited_lines : (tells : Bool) (lines : List Line) (count : ℕ) (old new : List Standing) → Going tells lines count old new → EachIs IsLimited old → (start : Start) → HaveStart old start
-    → (p : ℕ) → p < length old → next_after_lines (take count lines) start.maps start.next p ≤ SEQ_END
-limited_lines tells lines count old new going limited start have p below =
-    limited_at new (next_after_lines (take count lines) start.maps start.next) (going.limited limited) (going.next start have) p (omega (arith, below, going.same))
 
 -- ---- the line at this place
 
@@ -190,14 +184,46 @@ module _ (lines : List Line) (i : ℕ) (line : Line) (within : i < length lines)
   maps_more : (m : ℕ → Entries) → maps_after_lines (take (i + 1) lines) m ≡ maps_after_one line (maps_after_lines (take i lines) m)
   maps_more m = ap (λ (ls : List Line). maps_after_lines ls m) one_more ∙ maps_after_lines-push (take i lines) line m
 
-  next_more : (m : ℕ → Entries) (n : ℕ → ℕ) → next_after_lines (take (i + 1) lines) m n ≡ next_after_one line (maps_after_lines (take i lines) m) (next_after_lines (take i lines) m n)
-  next_more m n = ap (λ (ls : List Line). next_after_lines ls m n) one_more ∙ next_after_lines-push (take i lines) line m n
+  numbers_more : (limits : Limits) (m : ℕ → Entries) (n : ℕ → Numbers)
+      → numbers_after_lines limits (take (i + 1) lines) m n ≡ numbers_after_one limits line (maps_after_lines (take i lines) m) (numbers_after_lines limits (take i lines) m n)
+  numbers_more limits m n = ap (λ (ls : List Line). numbers_after_lines limits ls m n) one_more ∙ numbers_after_lines-push limits (take i lines) line m n
 
   accounts_more : (a : ℕ → Account) → accounts_after_lines (take (i + 1) lines) a ≡ accounts_after_one line (accounts_after_lines (take i lines) a)
   accounts_more a = ap (λ (ls : List Line). accounts_after_lines ls a) one_more ∙ accounts_after_lines-push (take i lines) line a
 
   module _ (tells : Bool) (step : Step) (old mid new : List Standing) (before then' : Option (List ℕ)) (text : List ℕ)
       (so : SoFar tells lines i old mid before then') (plays : PlaysAmong tells step line mid new text) where
+    module _ (limits : Limits) (start : Start) (have : HaveStart limits old start) where
+      needed_here : needed line plays.before ≡ wanting limits (numbers_after_lines limits (take i lines) start.maps (numbers_at start) (partition_of line)) (written_for line (maps_after_lines (take i lines) start.maps (partition_of line)))
+      needed_here =
+          needed_with tells step line mid new text plays limits (maps_after_lines (take i lines) start.maps) (numbers_after_lines limits (take i lines) start.maps (numbers_at start))
+          (so.going.limits limits have.limited) (so.going.maps start.maps have.maps) (so.going.counted limits start have)
+
+      -- its writer needs a number that none can have exactly where it is said of the lines
+      spent_at : (next : ℕ) → needed line plays.before ≡ Some next → IsSpentAt limits lines i start next
+      spent_at next needs = record { line = line; there = slice_get_at lines i line within is; needs = sym needed_here ∙ needs }
+
+      needs_at : (next : ℕ) → IsSpentAt limits lines i start next → needed line plays.before ≡ Some next
+      needs_at next spent =
+          let same : spent.line ≡ line = same_Some spent.line line (sym spent.there ∙ slice_get_at lines i line within is) in
+          needed_here
+          ∙ subst (λ (x : Line). wanting limits (numbers_after_lines limits (take i lines) start.maps (numbers_at start) (partition_of x)) (written_for x (maps_after_lines (take i lines) start.maps (partition_of x))) ≡ Some next)
+          same spent.needs
+
+    -- it is answered, or refused for another cause
+    module _ (other : (next : ℕ) → step ≡ Spent next → ⊥) where
+      unneeded : needed line plays.before ≡ None
+      unneeded = none_unless (needed line plays.before) (λ next is. other next (plays.plays.spent next is))
+
+      not_spent : (limits : Limits) (start : Start) → HaveStart limits old start → (next : ℕ) → ¬ IsSpentAt limits lines i start next
+      not_spent limits start have next spent = other next (plays.plays.spent next (needs_at limits start have next spent))
+
+      unspent_more : (limits : Limits) (start : Start) → HaveStart limits old start → (j next : ℕ) → j < i + 1 → ¬ IsSpentAt limits lines j start next
+      unspent_more limits start have j next below spent = elim (let split : (j < i) ⊎ (j ≡ i) = grind arith in split) [
+        | inl less ↦ so.going.unspent limits start have j next less spent
+        | inr here ↦ not_spent limits start have next (subst (λ (k : ℕ). IsSpentAt limits lines k start next) here spent)
+      ]
+
     -- it was answered
     accounts_answered : (tells ≡ true → (b : Beginning) (a : Account) → Stands plays.before b a → Stands plays.after b (account_after_line line a))
         → tells ≡ true → (begins : ℕ → Beginning) (a : ℕ → Account) → EachFits (StandsAt begins) old a → EachFits (StandsAt begins) new (accounts_after_lines (take (i + 1) lines) a)
@@ -206,21 +232,22 @@ module _ (lines : List Line) (i : ℕ) (line : Line) (within : i < length lines)
         (accounts_go tells step line mid new text plays begins (accounts_after_lines (take i lines) a) (account_after_line line (accounts_after_lines (take i lines) a (partition_of line)))
         (so.going.account y begins a each) (on y (begins (partition_of line)) (accounts_after_lines (take i lines) a (partition_of line))))
 
-    pub going_more : plays.after.maps ≡ maps_after_line line plays.before.maps → GoesOn plays.before plays.after → Counts line plays.before plays.after
+    pub going_more : ((next : ℕ) → step ≡ Spent next → ⊥) → plays.after.maps ≡ maps_after_line line plays.before.maps → GoesOn plays.before plays.after → Counts line plays.before plays.after
         → (tells ≡ true → (b : Beginning) (a : Account) → Stands plays.before b a → Stands plays.after b (account_after_line line a))
         → Going tells lines (i + 1) old new
-    going_more maps goes counts account = record {
+    going_more other maps goes counts account = record {
       same = length_stays tells step line mid new text plays ∙ so.going.same;
       maps = λ m each.
           subst (λ (all : ℕ → Entries). EachFits HasMaps new all) (sym (maps_more m))
           (maps_go tells step line mid new text plays (maps_after_lines (take i lines) m) (so.going.maps m each) maps);
       numbers = λ each. numbers_stay tells step line mid new text plays (so.going.numbers each);
-      next = λ start have.
-          subst (λ (all : ℕ → ℕ). EachFits HasNext new all) (sym (next_more start.maps start.next))
-          (next_goes tells step line mid new text plays (maps_after_lines (take i lines) start.maps) (next_after_lines (take i lines) start.maps start.next)
-          (so.going.maps start.maps have.maps) (so.going.next start have) counts);
-      chunks = λ start have. chunks_go tells step line mid new text plays start (so.going.chunks start have) counts;
-      limited = λ each. limits_stay tells step line mid new text plays (so.going.limited each) counts;
+      limits = λ limits each. limits_go tells step line mid new text plays limits (so.going.limits limits each) counts;
+      counted = λ limits start have.
+          subst (λ (all : ℕ → Numbers). EachFits HasNumbers new all) (sym (numbers_more limits start.maps (numbers_at start)))
+          (counted_go tells step line mid new text plays limits (maps_after_lines (take i lines) start.maps) (numbers_after_lines limits (take i lines) start.maps (numbers_at start))
+          (so.going.limits limits have.limited) (so.going.maps start.maps have.maps) (so.going.counted limits start have) counts);
+      unspent = unspent_more other;
+      limited = λ each. limited_go tells step line mid new text plays (so.going.limited each) (unneeded other) counts;
       runs = all_run tells step line mid new text plays so.going.runs goes;
       account = accounts_answered account;
     }
@@ -232,20 +259,20 @@ module _ (lines : List Line) (i : ℕ) (line : Line) (within : i < length lines)
         ∙ sym (text_more m)
 
     -- and its reply written
-    pub SoFar-more : (now : Option (List ℕ)) → text ≡ text_after line plays.before.maps → plays.after.maps ≡ maps_after_line line plays.before.maps → GoesOn plays.before plays.after
+    pub SoFar-more : (now : Option (List ℕ)) → ((next : ℕ) → step ≡ Spent next → ⊥) → text ≡ text_after line plays.before.maps → plays.after.maps ≡ maps_after_line line plays.before.maps → GoesOn plays.before plays.after
         → Counts line plays.before plays.after → (tells ≡ true → (b : Beginning) (a : Account) → Stands plays.before b a → Stands plays.after b (account_after_line line a))
         → Takes then' now text → SoFar tells lines (i + 1) old new before now
-    SoFar-more now told maps goes counts account took = record {
-      going = going_more maps goes counts account;
+    SoFar-more now other told maps goes counts account took = record {
+      going = going_more other maps goes counts account;
       text = λ m each. subst (λ (t : List ℕ). Takes before now t) (reply_is m each told) (Takes-append before then' now (replies (take i lines) m) text (so.text m each) took);
     }
 
     -- the sink failed at its reply
-    pub played_untaken : (now : Option (List ℕ)) → text ≡ text_after line plays.before.maps → plays.after.maps ≡ maps_after_line line plays.before.maps → GoesOn plays.before plays.after
+    pub played_untaken : (now : Option (List ℕ)) → ((next : ℕ) → step ≡ Spent next → ⊥) → text ≡ text_after line plays.before.maps → plays.after.maps ≡ maps_after_line line plays.before.maps → GoesOn plays.before plays.after
         → Counts line plays.before plays.after → (tells ≡ true → (b : Beginning) (a : Account) → Stands plays.before b a → Stands plays.after b (account_after_line line a))
         → TakesFront then' now text → Played tells lines old new before now Sink
-    played_untaken now told maps goes counts account took =
-        let going : Going tells lines (i + 1) old new = going_more maps goes counts account in
+    played_untaken now other told maps goes counts account took =
+        let going : Going tells lines (i + 1) old new = going_more other maps goes counts account in
         record {
           count = i + 1;
           within = omega (arith, within);
@@ -257,26 +284,26 @@ module _ (lines : List Line) (i : ℕ) (line : Line) (within : i < length lines)
                 (TakesAtLeast-append before then' now (replies (take i lines) m) text (so.text m each) took),
           );
           numbers = going.numbers;
-          limited = limited_lines tells lines (i + 1) old new going;
-          spent = λ limited start have next e. cc;
+          spends = λ limits start have. record { unspent = going.unspent limits start have; spent = λ next e. cc; told = λ next spent. inr (inl refl) };
+          number = λ limited next e. cc;
           whole = λ other. whole_all new going.runs;
           account = going.account;
         }
 
     -- there was no memory for its reply
-    pub played_no_reply : plays.after.maps ≡ maps_after_line line plays.before.maps → GoesOn plays.before plays.after → Counts line plays.before plays.after
+    pub played_no_reply : ((next : ℕ) → step ≡ Spent next → ⊥) → plays.after.maps ≡ maps_after_line line plays.before.maps → GoesOn plays.before plays.after → Counts line plays.before plays.after
         → (tells ≡ true → (b : Beginning) (a : Account) → Stands plays.before b a → Stands plays.after b (account_after_line line a))
         → Played tells lines old new before then' Memory
-    played_no_reply maps goes counts account =
-        let going : Going tells lines (i + 1) old new = going_more maps goes counts account in
+    played_no_reply other maps goes counts account =
+        let going : Going tells lines (i + 1) old new = going_more other maps goes counts account in
         record {
           count = i + 1;
           within = omega (arith, within);
           all = λ e. cc;
           text = λ m each. (i, omega arith, omega arith, so.text m each);
           numbers = going.numbers;
-          limited = limited_lines tells lines (i + 1) old new going;
-          spent = λ limited start have next e. cc;
+          spends = λ limits start have. record { unspent = going.unspent limits start have; spent = λ next e. cc; told = λ next spent. inr (inr refl) };
+          number = λ limited next e. cc;
           whole = λ other. whole_all new going.runs;
           account = going.account;
         }
@@ -290,8 +317,8 @@ module _ (lines : List Line) (i : ℕ) (line : Line) (within : i < length lines)
       all = λ e. cc;
       text = λ m each. (i, omega arith, omega arith, so.text m each);
       numbers = λ each. numbers_stay tells step line mid new text plays (so.going.numbers each);
-      limited = limited_lines tells lines i old mid so.going;
-      spent = λ limited start have next e. cc;
+      spends = λ limits start have. record { unspent = so.going.unspent limits start have; spent = λ next e. cc; told = λ next spent. inr (inr refl) };
+      number = λ limited next e. cc;
       whole = λ other. whole_all new (all_run tells step line mid new text plays so.going.runs goes);
       account = λ y begins a each.
           accounts_stay tells step line mid new text plays begins (accounts_after_lines (take i lines) a) (so.going.account y begins a each)
@@ -299,17 +326,21 @@ module _ (lines : List Line) (i : ℕ) (line : Line) (within : i < length lines)
     }
 
     -- the disk refused it
-    pub played_refused : (tells ≡ true → (b : Beginning) (a : Account) → Stands plays.before b a → Stands plays.after b (account_after_refused line a))
+    pub played_refused : ((next : ℕ) → step ≡ Spent next → ⊥) → (tells ≡ true → (b : Beginning) (a : Account) → Stands plays.before b a → Stands plays.after b (account_after_refused line a))
         → Played tells lines old new before then' Disk
-    played_refused account = record {
+    played_refused other account = record {
       count = i;
       within = omega (arith, within);
       all = λ e. cc;
       text = so.text;
       numbers = λ each. numbers_stay tells step line mid new text plays (so.going.numbers each);
-      limited = limited_lines tells lines i old mid so.going;
-      spent = λ limited start have next e. cc;
-      whole = λ other. absurd (other refl);
+      spends = λ limits start have. record {
+        unspent = so.going.unspent limits start have;
+        spent = λ next e. cc;
+        told = λ next spent. absurd (not_spent other limits start have next spent);
+      };
+      number = λ limited next e. cc;
+      whole = λ failed. absurd (failed refl);
       account = λ y begins a each.
           subst (λ (o : Option Line). EachFits (StandsAt begins) new (accounts_after_refused o (accounts_after_lines (take i lines) a))) (sym (slice_get_at lines i line within is))
           (accounts_go tells step line mid new text plays begins (accounts_after_lines (take i lines) a) (account_after_refused line (accounts_after_lines (take i lines) a (partition_of line)))
@@ -317,32 +348,22 @@ module _ (lines : List Line) (i : ℕ) (line : Line) (within : i < length lines)
     }
 
     -- it would need a number that none can have
-    spent_at : (next : ℕ) → IsSpent line plays.before next → EachIs IsLimited old → (start : Start) → HaveStart old start → IsSpentAt lines i start next
-    spent_at next spent limited start have =
-        let bounds = so.going.limited limited (partition_of line) plays.before plays.was in
-        let maps = so.going.maps start.maps have.maps (partition_of line) plays.before plays.was in
-        let number = so.going.next start have (partition_of line) plays.before plays.was in
-        let chunk = so.going.chunks start have (partition_of line) plays.before plays.was in
-        record {
-          line = line;
-          there = slice_get_at lines i line within is;
-          written = ap (writes_line line) (sym maps) ∙ spent.written;
-          limit = elim spent.limit [
-            | inl record' ↦ inl (omega (arith, record'.0, record'.1, bounds.next), omega (arith, number, record'.1, bounds.next))
-            | inr chunk' ↦ inr (omega (arith, chunk'.0, chunk'.1, bounds.next_chunk), omega (arith, chunk'.1, chunk, number))
-          ];
-        }
-
-    pub played_spent : (next : ℕ) → IsSpent line plays.before next → plays.after ≡ plays.before → (tells ≡ true → (b : Beginning) (a : Account) → Stands plays.before b a → Stands plays.after b a)
+    pub played_spent : (next : ℕ) → needed line plays.before ≡ Some next → plays.after ≡ plays.before → (tells ≡ true → (b : Beginning) (a : Account) → Stands plays.before b a → Stands plays.after b a)
         → Played tells lines old new before then' (ends.Spent next)
-    played_spent next spent same account = record {
+    played_spent next needs same account = record {
       count = i;
       within = omega (arith, within);
       all = λ e. cc;
       text = so.text;
       numbers = λ each. numbers_stay tells step line mid new text plays (so.going.numbers each);
-      limited = limited_lines tells lines i old mid so.going;
-      spent = λ limited start have other e. subst (IsSpentAt lines i start) (same_next next other e) (spent_at next spent limited start have);
+      spends = λ limits start have. record {
+        unspent = so.going.unspent limits start have;
+        spent = λ other e. subst (IsSpentAt limits lines i start) (same_next next other e) (spent_at limits start have next needs);
+        told = λ other spent. inl (ap ends.Spent (same_Some next other (sym needs ∙ needs_at limits start have other spent)));
+      };
+      number = λ limited other e.
+          subst IsEnd (same_next next other e)
+          (wanting_end plays.before.limits (numbers_of plays.before) (written_for line plays.before.maps) next (so.going.limited limited (partition_of line) plays.before plays.was) needs);
       whole = λ other.
           whole_all new (all_run tells step line mid new text plays so.going.runs
           (record { running = ap (λ (s : Standing). s.halted) same; whole = ap (λ (s : Standing). s.lost) same }));
@@ -365,9 +386,12 @@ played_whole tells lines i old new before now so end =
       all = λ _. refl;
       text = λ m each. subst (λ (ls : List Line). Takes before now (replies ls m)) all (so.text m each);
       numbers = so.going.numbers;
-      limited = λ limited start have p below.
-          subst (λ (ls : List Line). next_after_lines ls start.maps start.next p ≤ SEQ_END) (all ∙ sym same) (limited_lines tells lines i old new so.going limited start have p below);
-      spent = λ limited start have next e. cc;
+      spends = λ limits start have. record {
+        unspent = λ j next below. so.going.unspent limits start have j next (omega (arith, below, end));
+        spent = λ next e. cc;
+        told = λ next spent. let n : ⊥ = omega (arith, slice_get_within lines (length lines) spent.line spent.there) in absurd n;
+      };
+      number = λ limited next e. cc;
       whole = λ other. whole_all new so.going.runs;
       account = λ y begins a each.
           subst (λ (ls : List Line). EachFits (StandsAt begins) new (accounts_after_lines ls a)) (all ∙ sym same) (so.going.account y begins a each);

@@ -1,15 +1,21 @@
 -- What the answer of a writer makes of a line.
-use Rattle.std.specs.Prelude.{◌≡◌, ◌⊎◌, ℕ, ◌+◌, ◌<◌, ◌≤◌, Bool, true, false, nat_le, List, length, Option, Some, None, IsSome, zero, suc, Ok, Err, IsErrOf, refl, if◌then◌else◌}
+use Rattle.std.specs.Prelude.{◌≡◌, ◌⊎◌, ℕ, ◌+◌, ◌<◌, Bool, true, false, nat_le, List, length, option_to_list, Option, Some, None, IsSome, unwrap_or, zero, suc, Err, IsErrOf, refl, if◌then◌else◌}
+use Rattle.std.specs.List.{AllZip}
+use Rattle.std.specs.Option.{option_map}
 use Rattle.std.proofs.Common.{sym, ◌∙◌, ap, subst, inl, inr, arith}
-use Rattle.std.proofs.lemmas.Bool.{leb-false, leb-true}
-use Rattle.std.proofs.lemmas.Option.{none-some, same_Some}
+use Rattle.std.proofs.lemmas.Option.{none-some}
 use Rattle.hr_base.specs.Counts.{Rose}
 use Rattle.hr_base.specs.declared.limits.TheConstants.{CHUNK_NO_END, SEQ_END}
 use Rattle.hr_base.specs.declared.name.Class.{Class}
+use Rattle.hr_base.specs.declared.name.Class.TheVariants.{Value, Tomb}
+use Rattle.hr_base.specs.declared.name.Class.TheVariants as class
 use Rattle.hr_base.specs.Entries.{Entries}
 use Rattle.hr_base.specs.declared.name.Partition.{Partition}
 use Rattle.record_format.specs.declared.record.Record.{Record}
+use Rattle.record_format.specs.declared.record.Record.TheVariants as record_of
 use Rattle.record_format.specs.Spelling.{class_of_record, spelling}
+use Rattle.record_format.proofs.HeaderLaws.{spelling_length}
+use Rattle.value_chunk.specs.Chunks.{Chunk}
 use Rattle.crash_law.specs.Accounts.{Account, refused}
 use Rattle.crash_law.specs.Commands.{command_of, is_written, maps_after}
 use Rattle.crash_law.proofs.CommandLaws.{maps_after-unwritten}
@@ -18,61 +24,23 @@ use Rattle.script_text.specs.declared.line.Line.TheVariants.{Put, Remove, Clear,
 use Rattle.script_text.specs.declared.line.Mode.{Mode}
 use Rattle.script_text.specs.Lines.{IsLine, partition_of}
 use Rattle.script_text.specs.Replies.{maps_after_line, text_after}
+use Rattle.writer_chunks.specs.Lanes.{LaneState, taking_fits}
+use Rattle.writer_files.specs.Stocks.{Stock, lane_of}
+use Rattle.writer_files.specs.StockCalls.{KeepsChunk, KeepsOthers}
 use Rattle.partition_writer.specs.declared.refusal.WriteRefusal.{WriteRefusal}
 use Rattle.partition_writer.specs.declared.refusal.WriteRefusal.TheVariants.{Memory, DiskFault, Halted}
 use Rattle.partition_writer.specs.declared.refusal.WriteRefusal.TheVariants as refusal
-use Rattle.partition_writer.specs.Standing.{Standing, Beginning, Stands, has_room, spent_by}
-use Rattle.partition_writer.specs.Storing.{number_after}
+use Rattle.partition_writer.specs.Standing.{Standing, Beginning, Stands, has_room, limit_of, spent_by}
+use Rattle.partition_writer.specs.Storing.{number_after, size_of}
 use Rattle.partition_writer.specs.Answers.{WritesRecord, Writes, StandsAfter, Syncs, SyncsAll}
 use Rattle.store_drill.specs.declared.step.Step.{Step}
 use Rattle.store_drill.specs.declared.step.Step.TheVariants.{Answered, NoReply, NoMemory, DiskFailed, Spent}
 use Rattle.store_drill.specs.Accounts.{account_after_line, account_after_refused}
-use Rattle.store_drill.specs.Numbers.{next_after_line, writes_line}
-use Rattle.store_drill.specs.Playing.{Counts, FitsRecord, GoesOn, IsSpent, Plays, step_of}
-use Rattle.store_drill.specs.Writers.{IsLimited}
+use Rattle.store_drill.specs.Numbers.{Numbers, Piece, fits_in, has_place, numbers_after, numbers_with, piece_of, wanting, with_size, writes_line, written_for}
+use Rattle.store_drill.specs.Playing.{Counts, FitsRecord, GoesOn, Plays, needed, step_of}
+use Rattle.store_drill.specs.Writers.{numbers_of}
 
--- ---- numbers
-
-next_at_most : (room : Bool) (n : ℕ) → number_after room n ≤ n + 1
-next_at_most true n = omega arith
-next_at_most false n = omega arith
-
--- a number is spent at its end alone
-spent_where : (full room last : Bool) (next n m : ℕ) → (if full then Some n else if room then None else if last then Some m else None) ≡ Some next
-    → ((next ≡ n) × (full ≡ true)) ⊎ ((next ≡ m) × (last ≡ true))
-spent_where true room last next n m is = inl (same_Some next n (sym is), refl)
-spent_where false true last next n m is = cc
-spent_where false false true next n m is = inr (same_Some next m (sym is), refl)
-spent_where false false false next n m is = cc
-
-pub spent_limit : (s : Standing) (class : Class) (len next : ℕ) → spent_by s class len ≡ Some next → ((next ≡ s.next) × (SEQ_END ≤ s.next)) ⊎ ((next ≡ s.next_chunk) × (CHUNK_NO_END ≤ s.next_chunk))
-spent_limit s class len next is =
-    elim (spent_where (nat_le SEQ_END s.next) (has_room s class len) (nat_le CHUNK_NO_END s.next_chunk) next s.next s.next_chunk is) [
-      | inl number ↦ inl (number.0, leb-true SEQ_END s.next number.1)
-      | inr chunk ↦ inr (chunk.0, leb-true CHUNK_NO_END s.next_chunk chunk.1)
-    ]
-
-unspent_where : (full room last : Bool) (n m : ℕ) → (if full then Some n else if room then None else if last then Some m else None) ≡ None → (full ≡ false) × ((room ≡ true) ⊎ (last ≡ false))
-unspent_where true room last n m is = cc
-unspent_where false true last n m is = (refl, inl refl)
-unspent_where false false true n m is = cc
-unspent_where false false false n m is = (refl, inr refl)
-
-number_within : (room : Bool) (n : ℕ) → n ≤ CHUNK_NO_END → (room ≡ true) ⊎ (n < CHUNK_NO_END) → number_after room n ≤ CHUNK_NO_END
-number_within true n limited h = limited
-number_within false n limited (inl room) = cc
-number_within false n limited (inr less) = omega (arith, less)
-
--- where none is spent, the next ones are within their limits
-within_limits : (s t : Standing) (class : Class) (len : ℕ) → spent_by s class len ≡ None → t.next ≡ s.next + 1 → t.next_chunk ≡ number_after (has_room s class len) s.next_chunk → IsLimited s → IsLimited t
-within_limits s t class len unspent next chunk limited =
-    let where' = unspent_where (nat_le SEQ_END s.next) (has_room s class len) (nat_le CHUNK_NO_END s.next_chunk) s.next s.next_chunk unspent in
-    let less : s.next < SEQ_END = leb-false SEQ_END s.next where'.0 in
-    let room : (has_room s class len ≡ true) ⊎ (s.next_chunk < CHUNK_NO_END) = elim where'.1 [ inl room ↦ inl room | inr last ↦ inr (leb-false CHUNK_NO_END s.next_chunk last) ] in
-    record {
-      next = omega (arith, less, next);
-      next_chunk = omega (arith, chunk, number_within (has_room s class len) s.next_chunk limited.next_chunk room);
-    }
+-- ---- options and counts
 
 pub none_unless : {A : Type 0} (o : Option A) → ((x : A) → o ≡ Some x → ⊥) → o ≡ None
 none_unless None never = refl
@@ -97,30 +65,121 @@ Done s t r =
     ((is_written (command_of r) s.maps ≡ true) × (spent_by s (class_of_record r) (length (spelling r)) ≡ None) × Writes s t r)
     ⊎ ((is_written (command_of r) s.maps ≡ false) × (t ≡ s))
 
-next_written : (line : Line) (m : Entries) (n : ℕ) → writes_line line m ≡ true → next_after_line line m n ≡ n + 1
-next_written line m n is = rw is refl
+-- ---- what is written, as a line counts it
 
-next_unwritten : (line : Line) (m : Entries) (n : ℕ) → writes_line line m ≡ false → next_after_line line m n ≡ n
-next_unwritten line m n is = rw is refl
+-- what is written for a line is its record
+written_as : (line : Line) (m : Entries) (piece : Piece) → writes_line line m ≡ true → piece_of line ≡ Some piece → written_for line m ≡ Some piece
+written_as line m piece is gives = rw is gives
+
+nothing_for : (line : Line) (m : Entries) → writes_line line m ≡ false → written_for line m ≡ None
+nothing_for line m is = rw is refl
+
+-- the chunk in hand has room as its size says
+room_by_size : (taking : Option Chunk) (len limit : ℕ) → fits_in (option_map (λ (chunk : Chunk). chunk.size) taking) len limit ≡ taking_fits taking len limit
+room_by_size None len limit = refl
+room_by_size (Some chunk) len limit = refl
+
+abbrev pub piece_for : Class → ℕ → Piece
+piece_for class len = record { class = class; len = len }
+
+place_by_room : (s : Standing) (class : Class) (len : ℕ) → has_place s.limits (numbers_of s) (piece_for class len) ≡ has_room s class len
+place_by_room s class len = room_by_size (lane_of s.stock class).taking len (limit_of s.limits class)
+
+-- a writer refuses for want of a number as a line counts it
+pub wanting_spent : (s : Standing) (class : Class) (len : ℕ) → wanting s.limits (numbers_of s) (Some (piece_for class len)) ≡ spent_by s class len
+wanting_spent s class len =
+    ap (λ (room : Bool). if nat_le SEQ_END s.next then Some s.next else if room then None else if nat_le CHUNK_NO_END s.next_chunk then Some s.next_chunk else None)
+    (place_by_room s class len)
+
+-- ---- sizes
+
+size_or : (taking : Option Chunk) → unwrap_or (option_map (λ (chunk : Chunk). chunk.size) taking) 0 ≡ size_of taking
+size_or None = refl
+size_or (Some chunk) = refl
+
+sized : (taking : Option Chunk) (size : ℕ) → size_of taking ≡ size → 0 < size → option_map (λ (chunk : Chunk). chunk.size) taking ≡ Some size
+sized None size is some = absurd (omega (arith, is, some))
+sized (Some chunk) size is some = ap Some is
+
+-- one lane changes
+sizes_with : (old new : Stock) (class : Class) (size : ℕ) → KeepsOthers class old new → option_map (λ (chunk : Chunk). chunk.size) (lane_of new class).taking ≡ Some size
+    → (c : Class) → option_map (λ (chunk : Chunk). chunk.size) (lane_of new c).taking ≡ with_size (λ (d : Class). option_map (λ (chunk : Chunk). chunk.size) (lane_of old d).taking) class size c
+sizes_with old new Value size others is Value = is
+sizes_with old new Value size others is Tomb = ap (λ (lane : LaneState). option_map (λ (chunk : Chunk). chunk.size) lane.taking) (others Tomb (λ e. cc))
+sizes_with old new Value size others is class.Clear = ap (λ (lane : LaneState). option_map (λ (chunk : Chunk). chunk.size) lane.taking) (others class.Clear (λ e. cc))
+sizes_with old new Tomb size others is Value = ap (λ (lane : LaneState). option_map (λ (chunk : Chunk). chunk.size) lane.taking) (others Value (λ e. cc))
+sizes_with old new Tomb size others is Tomb = is
+sizes_with old new Tomb size others is class.Clear = ap (λ (lane : LaneState). option_map (λ (chunk : Chunk). chunk.size) lane.taking) (others class.Clear (λ e. cc))
+sizes_with old new class.Clear size others is Value = ap (λ (lane : LaneState). option_map (λ (chunk : Chunk). chunk.size) lane.taking) (others Value (λ e. cc))
+sizes_with old new class.Clear size others is Tomb = ap (λ (lane : LaneState). option_map (λ (chunk : Chunk). chunk.size) lane.taking) (others Tomb (λ e. cc))
+sizes_with old new class.Clear size others is class.Clear = is
+
+pub same_numbers : (a b : Numbers) → a.next ≡ b.next → a.next_chunk ≡ b.next_chunk → ((c : Class) → a.sizes c ≡ b.sizes c) → a ≡ b
+same_numbers a b next chunk sizes = λ i. record { next = next i; next_chunk = chunk i; sizes = λ c. sizes c i }
+
+-- a record has bytes
+spelling_some : (r : Record) → 0 < length (spelling r)
+spelling_some (record_of.Value seq prefix key value) = omega (arith, spelling_length (record_of.Value seq prefix key value))
+spelling_some (record_of.Tomb seq prefix key) = omega (arith, spelling_length (record_of.Tomb seq prefix key))
+spelling_some (record_of.Clear prefix seq) = omega (arith, spelling_length (record_of.Clear prefix seq))
+
+more_than : (room : Bool) (old len : ℕ) → 0 < len → 0 < (if room then old + len else len)
+more_than true old len some = omega (arith, some)
+more_than false old len some = some
+
+-- numbers after a record was written
+numbers_written : (s t : Standing) (r : Record) → Writes s t r → numbers_of t ≡ numbers_with s.limits (numbers_of s) (piece_for (class_of_record r) (length (spelling r)))
+numbers_written s t r writes =
+    let class : Class = class_of_record r in
+    let len : ℕ = length (spelling r) in
+    let place : has_place s.limits (numbers_of s) (piece_for class len) ≡ has_room s class len = place_by_room s class len in
+    let size : ℕ = if has_room s class len then size_of (lane_of s.stock class).taking + len else len in
+    let sized' : option_map (λ (chunk : Chunk). chunk.size) (lane_of t.stock class).taking ≡ Some size =
+    sized (lane_of t.stock class).taking size writes.fills.stock.size (more_than (has_room s class len) (size_of (lane_of s.stock class).taking) len (spelling_some r)) in
+    let size_is : (if has_place s.limits (numbers_of s) (piece_for class len) then unwrap_or ((numbers_of s).sizes class) 0 + len else len) ≡ size =
+    ap (λ (room : Bool). if room then unwrap_or ((numbers_of s).sizes class) 0 + len else len) place
+    ∙ ap (λ (n : ℕ). if has_room s class len then n + len else len) (size_or (lane_of s.stock class).taking) in
+    same_numbers (numbers_of t) (numbers_with s.limits (numbers_of s) (piece_for class len)) writes.notes.next
+    (writes.fills.next_chunk ∙ ap (λ (room : Bool). number_after room s.next_chunk) (sym place))
+    (λ c. sizes_with s.stock t.stock class size writes.fills.stock.others sized' c ∙ ap (λ (n : ℕ). with_size (numbers_of s).sizes class n c) (sym size_is))
 
 -- nothing was written
-pub counts_same : (line : Line) (s t : Standing) → writes_line line s.maps ≡ false → t.next ≡ s.next → t.next_chunk ≡ s.next_chunk → Counts line s t
-counts_same line s t unwritten next chunk = record {
-  next = next ∙ sym (next_unwritten line s.maps s.next unwritten);
-  chunks = omega (arith, next, chunk);
-  limited = λ limited. record { next = omega (arith, next, limited.next); next_chunk = omega (arith, chunk, limited.next_chunk) };
+pub counts_same : (line : Line) (s t : Standing) → writes_line line s.maps ≡ false → t.limits ≡ s.limits → numbers_of t ≡ numbers_of s → Counts line s t
+counts_same line s t unwritten limits same = record {
+  limits = limits;
+  numbers = same ∙ ap (numbers_after s.limits (numbers_of s)) (sym (nothing_for line s.maps unwritten));
 }
+
+-- and its writer lacks no number
+pub unneeded : (line : Line) (s : Standing) → writes_line line s.maps ≡ false → needed line s ≡ None
+unneeded line s unwritten = ap (wanting s.limits (numbers_of s)) (nothing_for line s.maps unwritten)
+
+pub needed_spent : (line : Line) (s : Standing) (class : Class) (len : ℕ) → writes_line line s.maps ≡ true → piece_of line ≡ Some (piece_for class len) → needed line s ≡ spent_by s class len
+needed_spent line s class len written gives =
+    ap (wanting s.limits (numbers_of s)) (written_as line s.maps (piece_for class len) written gives) ∙ wanting_spent s class len
+
+taking_synced : (old new : Option Chunk) → AllZip KeepsChunk (option_to_list old) (option_to_list new) → option_map (λ (chunk : Chunk). chunk.size) new ≡ option_map (λ (chunk : Chunk). chunk.size) old
+taking_synced None None keeps = refl
+taking_synced None (Some chunk) keeps = absurd keeps
+taking_synced (Some chunk) None keeps = absurd keeps
+taking_synced (Some chunk) (Some after) keeps = ap Some keeps.0.size
+
+pub numbers_synced : (s t : Standing) → Syncs s t → numbers_of t ≡ numbers_of s
+numbers_synced s t syncs =
+    same_numbers (numbers_of t) (numbers_of s) syncs.next syncs.next_chunk (λ c. taking_synced (lane_of s.stock c).taking (lane_of t.stock c).taking (syncs.taking c))
 
 -- it was answered, and its reply printed where there was memory for it
 pub plays_answered : (tells : Bool) (line : Line) (s t : Standing) (text : List ℕ) (step : Step)
     → (step ≡ Answered) ⊎ (step ≡ NoReply) → (step ≡ Answered → text ≡ text_after line s.maps)
-    → t.maps ≡ maps_after_line line s.maps → GoesOn s t → Counts line s t → t.partition ≡ s.partition
+    → t.maps ≡ maps_after_line line s.maps → GoesOn s t → Counts line s t → needed line s ≡ None → t.partition ≡ s.partition
     → (tells ≡ true → (b : Beginning) (a : Account) → Stands s b a → Stands t b (account_after_line line a)) → Plays tells step line s t text
-plays_answered tells line s t text Answered only told maps goes counts partition account = record { replies = (told refl, maps, goes, counts); partition = partition; account = account }
-plays_answered tells line s t text NoReply only told maps goes counts partition account = record { replies = (maps, goes, counts); partition = partition; account = account }
-plays_answered tells line s t text NoMemory only told maps goes counts partition account = absurd (elim only [ inl e ↦ cc | inr e ↦ cc ])
-plays_answered tells line s t text DiskFailed only told maps goes counts partition account = absurd (elim only [ inl e ↦ cc | inr e ↦ cc ])
-plays_answered tells line s t text (Spent next) only told maps goes counts partition account = absurd (elim only [ inl e ↦ cc | inr e ↦ cc ])
+plays_answered tells line s t text Answered only told maps goes counts none partition account =
+    record { replies = (told refl, maps, goes, counts); spent = λ next is. absurd (none-some next (sym none ∙ is)); partition = partition; account = account }
+plays_answered tells line s t text NoReply only told maps goes counts none partition account =
+    record { replies = (maps, goes, counts); spent = λ next is. absurd (none-some next (sym none ∙ is)); partition = partition; account = account }
+plays_answered tells line s t text NoMemory only told maps goes counts none partition account = absurd (elim only [ inl e ↦ cc | inr e ↦ cc ])
+plays_answered tells line s t text DiskFailed only told maps goes counts none partition account = absurd (elim only [ inl e ↦ cc | inr e ↦ cc ])
+plays_answered tells line s t text (Spent next) only told maps goes counts none partition account = absurd (elim only [ inl e ↦ cc | inr e ↦ cc ])
 
 module _ (s t : Standing) (r : Record) where
   pub done_maps : Done s t r → t.maps ≡ maps_after (command_of r) s.maps
@@ -131,45 +190,65 @@ module _ (s t : Standing) (r : Record) where
   done_goes running (inl done) = record { running = running; whole = done.2.lost }
   done_goes running (inr nothing) = subst (λ (x : Standing). GoesOn s x) (sym nothing.1) (goes_itself s)
 
-  pub done_counts : (line : Line) → writes_line line s.maps ≡ is_written (command_of r) s.maps → Done s t r → Counts line s t
-  done_counts line same (inl done) = record {
-    next = done.2.notes.next ∙ sym (next_written line s.maps s.next (same ∙ done.0));
-    chunks = omega (arith, done.2.notes.next, done.2.fills.next_chunk, next_at_most (has_room s (class_of_record r) (length (spelling r))) s.next_chunk);
-    limited = within_limits s t (class_of_record r) (length (spelling r)) done.1 done.2.notes.next done.2.fills.next_chunk;
-  }
-  done_counts line same (inr nothing) =
-      counts_same line s t (same ∙ nothing.0) (ap (λ (x : Standing). x.next) nothing.1) (ap (λ (x : Standing). x.next_chunk) nothing.1)
-
   pub done_partition : Done s t r → t.partition ≡ s.partition
   done_partition (inl done) = done.2.notes.partition
   done_partition (inr nothing) = ap (λ (x : Standing). x.partition) nothing.1
 
+  -- the line's record is this one
+  module _ (line : Line) (same : writes_line line s.maps ≡ is_written (command_of r) s.maps) (gives : piece_of line ≡ Some (piece_for (class_of_record r) (length (spelling r)))) where
+    pub done_counts : Done s t r → Counts line s t
+    done_counts (inl done) = record {
+      limits = done.2.notes.limits;
+      numbers =
+          numbers_written s t r done.2
+          ∙ ap (numbers_after s.limits (numbers_of s)) (sym (written_as line s.maps (piece_for (class_of_record r) (length (spelling r))) (same ∙ done.0) gives));
+    }
+    done_counts (inr nothing) =
+        counts_same line s t (same ∙ nothing.0) (ap (λ (x : Standing). x.limits) nothing.1) (ap (λ (x : Standing). numbers_of x) nothing.1)
+
+    pub done_needed : Done s t r → needed line s ≡ None
+    done_needed (inl done) = needed_spent line s (class_of_record r) (length (spelling r)) (same ∙ done.0) gives ∙ done.1
+    done_needed (inr nothing) = unneeded line s (same ∙ nothing.0)
+
 pub goes_synced : (s t : Standing) → t.halted ≡ s.halted → Syncs s t → GoesOn s t
 goes_synced s t running syncs = record { running = running; whole = syncs.lost }
 
+pub counts_synced : (p : Partition) (s t : Standing) → Syncs s t → Counts (Sync p) s t
+counts_synced p s t syncs = counts_same (Sync p) s t refl syncs.limits (numbers_synced s t syncs)
+
 -- ---- refused
+
+told_spent : (T : Type 0) (why : WriteRefusal) (next : ℕ) → IsErrOf {T = T} (Err why) (refusal.Spent next) → step_of why ≡ Spent next
+told_spent T Memory next is = absurd cc
+told_spent T DiskFault next is = absurd cc
+told_spent T (Halted at) next is = absurd cc
+told_spent T (refusal.Spent other) next is = cc
 
 -- a command was refused
 module _ (T : Type 0) (tells : Bool) (line : Line) (s t : Standing) (text : List ℕ) (r : Record) where
   pub plays_refused : (why : WriteRefusal) → WritesRecord {T = T} (Err why) s t r
       → (IsErrOf {T = T} (Err why) Memory → t.halted ≡ s.halted) → (IsErrOf {T = T} (Err why) DiskFault → Rose s.faults t.faults) → ((at : ℕ) → IsErrOf {T = T} (Err why) (Halted at) → s.halted ≡ Some at) → s.halted ≡ None
-      → ((next : ℕ) → IsErrOf {T = T} (Err why) (refusal.Spent next) → IsSpent line s next)
+      → ((next : ℕ) → IsErrOf {T = T} (Err why) (refusal.Spent next) → needed line s ≡ Some next)
+      → ((next : ℕ) → needed line s ≡ Some next → IsErrOf {T = T} (Err why) (refusal.Spent next))
       → ((a : Account) → account_after_refused line a ≡ refused a (command_of r))
       → (tells ≡ true → (b : Beginning) (a : Account) → Stands s b a → StandsAfter {T = T} (Err why) t b a (command_of r))
       → Plays tells (step_of why) line s t text
-  plays_refused Memory writes kept cause halted running spent loss account = record {
+  plays_refused Memory writes kept cause halted running needs spent loss account = record {
     replies = (writes.0.maps, record { running = kept refl; whole = writes.0.lost });
+    spent = λ next is. told_spent T Memory next (spent next is);
     partition = writes.0.partition;
     account = account;
   }
-  plays_refused DiskFault writes kept cause halted running spent loss account = record {
+  plays_refused DiskFault writes kept cause halted running needs spent loss account = record {
     replies = (writes.maps, cause refl);
+    spent = λ next is. told_spent T DiskFault next (spent next is);
     partition = writes.notes.partition;
     account = λ y b a h. subst (λ (x : Account). Stands t b x) (sym (loss a)) (account y b a h);
   }
-  plays_refused (Halted at) writes kept cause halted running spent loss account = absurd (none-some at (sym running ∙ halted at refl))
-  plays_refused (refusal.Spent next) writes kept cause halted running spent loss account = record {
-    replies = (spent next refl, writes);
+  plays_refused (Halted at) writes kept cause halted running needs spent loss account = absurd (none-some at (sym running ∙ halted at refl))
+  plays_refused (refusal.Spent next) writes kept cause halted running needs spent loss account = record {
+    replies = (needs next refl, writes);
+    spent = λ other is. told_spent T (refusal.Spent next) other (spent other is);
     partition = ap (λ (x : Standing). x.partition) writes;
     account = account;
   }
@@ -181,11 +260,13 @@ pub plays_unsynced : (T : Type 0) (tells : Bool) (p : Partition) (s t : Standing
     → Plays tells (step_of why) (Sync p) s t text
 plays_unsynced T tells p s t text Memory syncs kept cause halted running account = record {
   replies = (syncs.0.maps, record { running = kept refl; whole = syncs.0.lost });
+  spent = λ next is. absurd (none-some next is);
   partition = syncs.0.partition;
   account = account;
 }
 plays_unsynced T tells p s t text DiskFault syncs kept cause halted running account = record {
   replies = (syncs.maps, cause refl);
+  spent = λ next is. absurd (none-some next is);
   partition = syncs.partition;
   account = account;
 }

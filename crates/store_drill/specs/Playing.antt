@@ -1,7 +1,8 @@
 -- A line of a session, and lines one after another.
-use Rattle.std.specs.Prelude.{◌≡◌, ◌⊎◌, ℕ, ◌+◌, ◌<◌, ◌≤◌, Bool, true, List, length, take, Option, Some, slice_get, slice_set}
+use Rattle.std.specs.Prelude.{◌≡◌, ℕ, ◌≤◌, Bool, true, List, length, Option, Some, slice_get, slice_set}
 use Rattle.hr_base.specs.Counts.{Rose}
-use Rattle.hr_base.specs.declared.limits.TheConstants.{SEQ_END, CHUNK_NO_END, MAX_KEY_LEN, MAX_VALUE_LEN}
+use Rattle.hr_base.specs.declared.limits.Limits.{Limits}
+use Rattle.hr_base.specs.declared.limits.TheConstants.{MAX_KEY_LEN, MAX_VALUE_LEN}
 use Rattle.hr_base.specs.Entries.{Entries}
 use Rattle.crash_law.specs.Accounts.{Account}
 use Rattle.script_text.specs.declared.line.Line.{Line}
@@ -19,9 +20,9 @@ use Rattle.restart_load.specs.Writers.{EachIs}
 use Rattle.store_drill.specs.declared.step.Step.{Step}
 use Rattle.store_drill.specs.declared.step.Step.TheVariants.{Answered, NoReply, NoMemory, DiskFailed, Spent}
 use Rattle.store_drill.specs.Accounts.{account_after_line, account_after_refused, accounts_at}
-use Rattle.store_drill.specs.Numbers.{IsSpentAt, Start, next_after_line, next_after_lines, writes_line}
+use Rattle.store_drill.specs.Numbers.{IsEnd, SpendsAt, Start, numbers_after, wanting, written_for}
 use Rattle.store_drill.specs.Sessions.{TextAt}
-use Rattle.store_drill.specs.Writers.{EachFits, HasMaps, HasNumber, HaveStart, IsLimited, IsWhole, StandsAt}
+use Rattle.store_drill.specs.Writers.{EachFits, HasMaps, HasNumber, HaveStart, IsLimited, IsWhole, StandsAt, numbers_of}
 
 -- ---- one line
 
@@ -38,11 +39,14 @@ pub record GoesOn (s t : Standing) : Type 0 where
   pub running : t.halted ≡ s.halted
   pub whole : t.lost ≡ s.lost
 
--- a number of a record was used up where one was written, and of a chunk no more than one for it
+-- the number that its record needs on this writer, and that none can have
+abbrev pub needed : Line → Standing → Option ℕ
+needed line s = wanting s.limits (numbers_of s) (written_for line s.maps)
+
+-- numbers were used up where its record was written
 pub record Counts (line : Line) (s t : Standing) : Type 0 where
-  pub next : t.next ≡ next_after_line line s.maps s.next
-  pub chunks : t.next_chunk + s.next ≤ s.next_chunk + t.next
-  pub limited : IsLimited s → IsLimited t
+  pub limits : t.limits ≡ s.limits
+  pub numbers : numbers_of t ≡ numbers_after s.limits (numbers_of s) (written_for line s.maps)
 
 -- what became of a line that its writer refused
 abbrev pub step_of : WriteRefusal → Step
@@ -51,18 +55,13 @@ step_of DiskFault = DiskFailed
 step_of (Halted at) = DiskFailed
 step_of (refusal.Spent next) = Spent next
 
--- its record would be written, and no record or no chunk can have the number that it would need
-pub record IsSpent (line : Line) (s : Standing) (next : ℕ) : Type 0 where
-  pub written : writes_line line s.maps ≡ true
-  pub limit : ((next ≡ s.next) × (SEQ_END ≤ s.next)) ⊎ ((next ≡ s.next_chunk) × (CHUNK_NO_END ≤ s.next_chunk))
-
 -- what is replied, and the maps and numbers after it
 abbrev pub Replies : Step → Line → Standing → Standing → List ℕ → Type 0
 Replies Answered line s t text = (text ≡ text_after line s.maps) × (t.maps ≡ maps_after_line line s.maps) × GoesOn s t × Counts line s t
 Replies NoReply line s t text = (t.maps ≡ maps_after_line line s.maps) × GoesOn s t × Counts line s t
 Replies NoMemory line s t text = (t.maps ≡ s.maps) × GoesOn s t
 Replies DiskFailed line s t text = (t.maps ≡ s.maps) × Rose s.faults t.faults
-Replies (Spent next) line s t text = IsSpent line s next × (t ≡ s)
+Replies (Spent next) line s t text = (needed line s ≡ Some next) × (t ≡ s)
 
 -- the account after it
 abbrev pub account_after_step : Step → Line → Account → Account
@@ -75,6 +74,8 @@ account_after_step (Spent next) line a = a
 -- a line was played on the writer of its partition
 pub record Plays (tells : Bool) (step : Step) (line : Line) (s t : Standing) (text : List ℕ) : Type 0 where
   pub replies : Replies step line s t text
+  -- want of a number comes before all else
+  pub spent : (next : ℕ) → needed line s ≡ Some next → step ≡ Spent next
   pub partition : t.partition ≡ s.partition
   pub account : tells ≡ true → (b : Beginning) (a : Account) → Stands s b a → Stands t b (account_after_step step line a)
 
@@ -96,9 +97,9 @@ pub record Played (tells : Bool) (lines : List Line) (old new : List Standing) (
   pub all : ended ≡ Whole → count ≡ length lines
   pub text : (maps : ℕ → Entries) → EachFits HasMaps old maps → TextAt ended lines count maps before now
   pub numbers : EachFits HasNumber old (λ p. p) → EachFits HasNumber new (λ p. p)
-  -- no number was used that none can have, and want of a number ended it only where the next line needs one
-  pub limited : EachIs IsLimited old → (start : Start) → HaveStart old start → (p : ℕ) → p < length old → next_after_lines (take count lines) start.maps start.next p ≤ SEQ_END
-  pub spent : EachIs IsLimited old → (start : Start) → HaveStart old start → (next : ℕ) → ended ≡ ends.Spent next → IsSpentAt lines count start next
+  -- no answered line needed a number that none can have, and want of one ended it exactly where the next line needs it
+  pub spends : (limits : Limits) (start : Start) → HaveStart limits old start → SpendsAt limits lines count start ended
+  pub number : EachIs IsLimited old → (next : ℕ) → ended ≡ ends.Spent next → IsEnd next
   -- unless the disk refused a line, no record lacks bytes
   pub whole : (ended ≡ Disk → ⊥) → EachIs IsWhole new
   pub account : tells ≡ true → (begins : ℕ → Beginning) (accounts : ℕ → Account) → EachFits (StandsAt begins) old accounts

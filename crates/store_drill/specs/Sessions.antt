@@ -1,6 +1,6 @@
 -- What a session finds in a folder, what it writes, and what it leaves there.
 use Rattle.std.specs.Prelude.{◌≡◌, ◌⊎◌, ℕ, ◌+◌, ◌<◌, ◌≤◌, Bool, true, List, length, take, Option, ⊤}
-use Rattle.hr_base.specs.declared.limits.TheConstants.{SEQ_END}
+use Rattle.hr_base.specs.declared.limits.Limits.{Limits}
 use Rattle.hr_base.specs.Entries.{Entries}
 use Rattle.hr_edges.specs.Edges.{Takes, TakesAtLeast}
 use Rattle.hr_edges.specs.declared.sink.Sink.{Ghosts as SinkGhosts}
@@ -19,7 +19,7 @@ use Rattle.restart_load.specs.declared.refusal.RestartRefusal.{RestartRefusal}
 use Rattle.restart_load.specs.declared.ended.Ended.{Ended}
 use Rattle.restart_load.specs.declared.ended.Ended.TheVariants.{Whole, Sink, Disk, Memory, Load, Spent}
 use Rattle.store_drill.specs.Accounts.{accounts_at}
-use Rattle.store_drill.specs.Numbers.{IsSpentAt, Start, next_after_lines}
+use Rattle.store_drill.specs.Numbers.{IsEnd, SpendsAt, Start}
 
 -- ---- the outside of a session
 
@@ -74,25 +74,25 @@ pub record NotBegun (tells : Bool) (partitions : ℕ) (old new : Outside) (ended
   pub images : tells ≡ true → KeepsImages old.port new.port
 
 -- The folder was restarted with so many partitions, and the session began with its lines.
-pub record Session (tells : Bool) (partitions : ℕ) (lines : List Line) (old new : Outside) (ended : Ended) : Type 0 where
+pub record Session (tells : Bool) (limits : Limits) (lines : List Line) (old new : Outside) (ended : Ended) : Type 0 where
   -- what each partition began with, which is what the folder restarts to
   pub start : Start
-  pub started : tells ≡ true → IsStart (read_of old.port) partitions start
+  pub started : tells ≡ true → IsStart (read_of old.port) limits.partitions start
   -- so many lines were answered, all of them where it was done to its end
   pub count : ℕ
   pub within : count ≤ length lines
   pub all : ended ≡ Whole → count ≡ length lines
   -- the replies that were written
   pub text : TextAt ended lines count start.maps old.taken new.taken
-  -- no number was used that none can have, and a session ended for want of a number only where the next line needs one
-  pub limited : tells ≡ true → (p : ℕ) → p < partitions → next_after_lines (take count lines) start.maps start.next p ≤ SEQ_END
-  pub spent : tells ≡ true → (next : ℕ) → ended ≡ Spent next → IsSpentAt lines count start next
+  -- no answered line needed a number that none can have, and want of one ended it exactly where the next line needs it
+  pub spends : SpendsAt limits lines count start ended
+  pub number : tells ≡ true → (next : ℕ) → ended ≡ Spent next → IsEnd next
   -- every crash leaves each key of each partition its state after a number of its own commands, which holds all that was
   -- synced
-  pub survives : tells ≡ true → AllSurvive new.port.held new.port.gone partitions (accounts_at ended lines count (λ p. fresh_account (start.maps p)))
+  pub survives : tells ≡ true → AllSurvive new.port.held new.port.gone limits.partitions (accounts_at ended lines count (λ p. fresh_account (start.maps p)))
   -- and unless the disk refused a call, what is read without a crash restarts to exactly the accounts' maps
-  pub exact : tells ≡ true → (ended ≡ Disk → ⊥) → AllRestart (read_of new.port) partitions (λ p. (accounts_at ended lines count (λ p. fresh_account (start.maps p)) p).maps)
+  pub exact : tells ≡ true → (ended ≡ Disk → ⊥) → AllRestart (read_of new.port) limits.partitions (λ p. (accounts_at ended lines count (λ p. fresh_account (start.maps p)) p).maps)
 
 -- its folder was not restarted, or it began
-abbrev pub Ran : Bool → ℕ → List Line → Outside → Outside → Ended → Type 0
-Ran tells partitions lines old new ended = NotBegun tells partitions old new ended ⊎ Session tells partitions lines old new ended
+abbrev pub Ran : Bool → Limits → List Line → Outside → Outside → Ended → Type 0
+Ran tells limits lines old new ended = NotBegun tells limits.partitions old new ended ⊎ Session tells limits lines old new ended

@@ -1,17 +1,21 @@
 -- The writers of a session, one for each partition, as contracts see them.
-use Rattle.std.specs.Prelude.{◌≡◌, ℕ, ◌+◌, ◌≤◌, Bool, true, false, List, sum_by, Option, Some, None, slice_get}
+use Rattle.std.specs.Prelude.{◌≡◌, ℕ, ◌≤◌, Bool, true, false, List, sum_by, Option, Some, None, slice_get}
+use Rattle.std.specs.Option.{option_map}
 use Rattle.hr_base.specs.Entries.{Entries}
+use Rattle.hr_base.specs.declared.limits.Limits.{Limits}
 use Rattle.hr_base.specs.declared.limits.TheConstants.{CHUNK_NO_END, SEQ_END}
 use Rattle.hr_base.specs.declared.name.ChunkName.{ChunkName}
+use Rattle.hr_base.specs.declared.name.Class.{Class}
 use Rattle.dir_files.specs.Files.{FileState, Files}
 use Rattle.dir_files.specs.Images.{Image}
 use Rattle.crash_law.specs.Accounts.{Account, fresh_account}
 use Rattle.crash_law.specs.Restarts.{Fact}
 use Rattle.record_replay.specs.Replays.{IsNext}
-use Rattle.writer_files.specs.Stocks.{files_of}
+use Rattle.writer_chunks.specs.Lanes.{empty_lane}
+use Rattle.writer_files.specs.Stocks.{files_of, lane_of}
 use Rattle.partition_writer.specs.Standing.{Standing, Beginning, Stands}
 use Rattle.restart_load.specs.Writers.{EachIs, IsNextChunk, beginning_of}
-use Rattle.store_drill.specs.Numbers.{Start}
+use Rattle.store_drill.specs.Numbers.{Numbers, Start, numbers_at}
 
 -- ---- all writers
 
@@ -31,17 +35,21 @@ HasNumber p number s = s.partition.0 ≡ number
 abbrev pub HasMaps : ℕ → Entries → Standing → Type 0
 HasMaps p maps s = s.maps ≡ maps
 
-abbrev pub HasNext : ℕ → ℕ → Standing → Type 0
-HasNext p next s = s.next ≡ next
+-- what the next record of a writer is numbered by
+abbrev pub numbers_of : Standing → Numbers
+numbers_of s = record { next = s.next; next_chunk = s.next_chunk; sizes = λ class. option_map (λ chunk. chunk.size) (lane_of s.stock class).taking }
 
-abbrev pub HasNextChunk : ℕ → ℕ → Standing → Type 0
-HasNextChunk p next_chunk s = s.next_chunk ≡ next_chunk
+abbrev pub HasNumbers : ℕ → Numbers → Standing → Type 0
+HasNumbers p numbers s = numbers_of s ≡ numbers
 
--- the writers have these maps and these numbers
-pub record HaveStart (writers : List Standing) (start : Start) : Type 0 where
+abbrev pub HasLimits : Limits → Standing → Type 0
+HasLimits limits s = s.limits ≡ limits
+
+-- the writers have these limits, maps and numbers
+pub record HaveStart (limits : Limits) (writers : List Standing) (start : Start) : Type 0 where
+  pub limited : EachIs (HasLimits limits) writers
   pub maps : EachFits HasMaps writers start.maps
-  pub next : EachFits HasNext writers start.next
-  pub next_chunk : EachFits HasNextChunk writers start.next_chunk
+  pub numbers : EachFits HasNumbers writers (numbers_at start)
 
 -- it stands for the account since its partition began so
 abbrev pub StandsAt : (ℕ → Beginning) → ℕ → Account → Standing → Type 0
@@ -68,18 +76,22 @@ pub record Runs (s : Standing) : Type 0 where
   pub running : s.halted ≡ None
   pub whole : s.lost ≡ false
 
--- it has used no number that none can have
-pub record IsLimited (s : Standing) : Type 0 where
-  pub next : s.next ≤ SEQ_END
-  pub next_chunk : s.next_chunk ≤ CHUNK_NO_END
+-- no number that none can have was used up
+pub record AreLimited (n : Numbers) : Type 0 where
+  pub next : n.next ≤ SEQ_END
+  pub next_chunk : n.next_chunk ≤ CHUNK_NO_END
+
+abbrev pub IsLimited : Standing → Type 0
+IsLimited s = AreLimited (numbers_of s)
 
 -- ---- what writers begin with
 
--- A writer of the partition that goes on from these files and has done nothing yet.
+-- A writer of the partition that goes on from these files, has done nothing yet and has no chunk in hand.
 pub record Begins (tells : Bool) (image : Image) (p : ℕ) (s : Standing) : Type 0 where
   pub number : s.partition.0 ≡ p
   pub runs : Runs s
   pub faults : s.faults ≡ 0
+  pub lanes : (class : Class) → lane_of s.stock class ≡ empty_lane class
   pub files : tells ≡ true → (name : ChunkName) → files_of s.stock name ≡ None
   pub next : tells ≡ true → IsNext (Fact image p) s.next
   pub next_chunk : tells ≡ true → IsNextChunk image p s.next_chunk

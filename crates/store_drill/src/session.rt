@@ -2,6 +2,7 @@
 
 ghost use Rattle.std.specs.Prelude.{◌≡◌, ◌≤◌, ℕ, true, length, All};
 ghost use Rattle.hr_base.specs.Counts.{Rose};
+ghost use Rattle.hr_base.specs.declared.limits.Limits.{Limits};
 ghost use Rattle.hr_base.specs.LimitRanges.{IsLimits};
 ghost use Rattle.dir_files.specs.Images.{read_of};
 ghost use Rattle.dir_files.specs.PortStates.{IsAtRest, IsCalm};
@@ -12,7 +13,7 @@ ghost use Rattle.restart_load.specs.declared.ended.Ended.{Ended};
 ghost use Rattle.restart_load.specs.Writers.{EachIs, standings};
 ghost use Rattle.store_drill.specs.Playing.{Played};
 ghost use Rattle.store_drill.specs.Sessions.{Ran, Session, outside};
-ghost use Rattle.store_drill.specs.Writers.{AllBegin, Runs, faults_of};
+ghost use Rattle.store_drill.specs.Writers.{AllBegin, HasLimits, Runs, faults_of};
 
 use crate::lines::play_lines;
 use crate::writers::close_writers;
@@ -55,7 +56,8 @@ fn play_restarted<F: Folder, K: Sink>(
     requires restartable { F.tells ≡ true → IsRestartable (read_of (F.port folder.old)) (length writers.items) }
     requires at_rest { F.tells ≡ true → IsAtRest (F.port folder.old) }
     ensures calm { F.tells ≡ true → IsCalm (F.port folder.new) }
-    ensures session { Session F.tells (length writers.items) lines.now (outside ⟦<F as Folder>⟧ ⟦<K as Sink>⟧ folder.old out.old)
+    ensures session { (limits : Limits) → EachIs (HasLimits limits) (standings writers.items) → length writers.items ≡ limits.partitions
+        → Session F.tells limits lines.now (outside ⟦<F as Folder>⟧ ⟦<K as Sink>⟧ folder.old out.old)
         (outside ⟦<F as Folder>⟧ ⟦<K as Sink>⟧ folder.new out.new) result }
     ensures disk { result ≡ Ended.Disk → Rose (F.count folder.old) (F.count folder.new) }
     ensures sink { result ≡ Ended.Sink → Rose (K.count out.old) (K.count out.new) }
@@ -81,7 +83,7 @@ pub fn play<F: Folder, K: Sink>(
     requires calm { F.tells ≡ true → IsCalm (F.port folder.old) }
     ensures calm { F.tells ≡ true → IsCalm (F.port folder.new) }
     // What was answered and written, what every crash leaves, and why no more.
-    ensures ran { Ran F.tells limits.now.partitions lines.now (outside ⟦<F as Folder>⟧ ⟦<K as Sink>⟧ folder.old out.old)
+    ensures ran { Ran F.tells limits.now lines.now (outside ⟦<F as Folder>⟧ ⟦<K as Sink>⟧ folder.old out.old)
         (outside ⟦<F as Folder>⟧ ⟦<K as Sink>⟧ folder.new out.new) result }
     // The disk or the output failed only where its count rose.
     ensures disk { result ≡ Ended.Disk → Rose (F.count folder.old) (F.count folder.new) }

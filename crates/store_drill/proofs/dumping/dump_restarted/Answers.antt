@@ -10,7 +10,7 @@ use Rattle.restart_load.specs.Writers.{standings}
 use Rattle.store_drill.specs.Dumping.{DumpAt}
 use Rattle.store_drill.specs.Writers.{EachFits, HasMaps, HasNumber}
 use Rattle.store_drill.proofs.DumpLaws.{closed_keeps}
-use Rattle.store_drill.proofs.FolderLaws.{all_apart, all_own, begun_stand, begun_start, have_started, started}
+use Rattle.store_drill.proofs.FolderLaws.{all_apart, all_own, begun_stand, begun_start, have_maps, started}
 use Rattle.store_drill.proofs.dumping.dump_restarted.Goals as goal
 
 pub dump_writers-ended-requires : goal.dump_writers-ended-requires
@@ -47,6 +47,6 @@ returns-clause-dumped g c =
           (subst (λ (partitions : ℕ). IsRestartable (read_of (g.F.Folder.port c.args.folder.now)) partitions) (sym count) (c.requires.restartable y))).maps;
       text =
           subst (λ list. (maps : ℕ → Entries) → EachFits HasMaps (standings list) maps → DumpAt c.dump_writers-ended.result (dump_lines (length list) maps) (g.K.Sink.taken c.args.out.now) (g.K.Sink.taken c.dump_writers-ended.new.out))
-          c.as_slice.ensures.value c.dump_writers-ended.ensures.text (started writers).maps (have_started writers).maps;
+          c.as_slice.ensures.value c.dump_writers-ended.ensures.text (started writers).maps (have_maps writers);
       images = λ y. closed_keeps g.F.Folder.tells _ writers _ _ c.requires.begun y (c.requires.at_rest y) (c.close_writers.ensures.given_back y) (c.close_writers.ensures.held y);
     }

@@ -26,7 +26,7 @@ answer-requires-clause-running g c = λ p s is. (c.loop-line.invariant.so_far.go
 pub returns-in-NoReply-clause-played : goal.returns-in-NoReply-clause-played
 returns-in-NoReply-clause-played g c =
     let plays : PlaysAmong g.F.Folder.tells NoReply c.line-item.result (standings c.loop-line.writers) (standings c.answer.new.writers) c.answer.new.text.items = c.in-NoReply.ensures in
-    played_no_reply c.args.lines.now c.loop-line.line-index c.line-item.result c.loop-line-test.true c.line-item.is g.F.Folder.tells NoReply _ _ _ _ _ _ c.loop-line.invariant.so_far plays
+    played_no_reply c.args.lines.now c.loop-line.line-index c.line-item.result c.loop-line-test.true c.line-item.is g.F.Folder.tells NoReply _ _ _ _ _ _ c.loop-line.invariant.so_far plays (λ next e. cc)
     plays.plays.replies.0 plays.plays.replies.1 plays.plays.replies.2 plays.plays.account
 
 pub returns-in-NoMemory-clause-played : goal.returns-in-NoMemory-clause-played
@@ -38,7 +38,7 @@ returns-in-NoMemory-clause-played g c =
 pub returns-in-DiskFailed-clause-played : goal.returns-in-DiskFailed-clause-played
 returns-in-DiskFailed-clause-played g c =
     let plays : PlaysAmong g.F.Folder.tells DiskFailed c.line-item.result (standings c.loop-line.writers) (standings c.answer.new.writers) c.answer.new.text.items = c.in-DiskFailed.ensures in
-    played_refused c.args.lines.now c.loop-line.line-index c.line-item.result c.loop-line-test.true c.line-item.is g.F.Folder.tells DiskFailed _ _ _ _ _ _ c.loop-line.invariant.so_far plays
+    played_refused c.args.lines.now c.loop-line.line-index c.line-item.result c.loop-line-test.true c.line-item.is g.F.Folder.tells DiskFailed _ _ _ _ _ _ c.loop-line.invariant.so_far plays (λ next e. cc)
     plays.plays.account
 
 pub returns-in-DiskFailed-clause-disk : goal.returns-in-DiskFailed-clause-disk
@@ -55,7 +55,7 @@ returns-in-Spent-clause-played g c =
 pub returns-in-Err-clause-played : goal.returns-in-Err-clause-played
 returns-in-Err-clause-played g c =
     let plays : PlaysAmong g.F.Folder.tells Answered c.line-item.result (standings c.loop-line.writers) (standings c.answer.new.writers) c.answer.new.text.items = c.in-Answered.ensures in
-    played_untaken c.args.lines.now c.loop-line.line-index c.line-item.result c.loop-line-test.true c.line-item.is g.F.Folder.tells Answered _ _ _ _ _ _ c.loop-line.invariant.so_far plays _
+    played_untaken c.args.lines.now c.loop-line.line-index c.line-item.result c.loop-line-test.true c.line-item.is g.F.Folder.tells Answered _ _ _ _ _ _ c.loop-line.invariant.so_far plays _ (λ next e. cc)
     plays.plays.replies.0 plays.plays.replies.1 plays.plays.replies.2 plays.plays.replies.3 plays.plays.account (rw c.as_slice.ensures.value at c.in-Err.ensures.err)
 
 pub loop-line-preserved : goal.loop-line-preserved
@@ -63,7 +63,7 @@ loop-line-preserved g c =
     let plays : PlaysAmong g.F.Folder.tells Answered c.line-item.result (standings c.loop-line.writers) (standings c.answer.new.writers) c.answer.new.text.items = c.in-Answered.ensures in
     record {
       so_far =
-          SoFar-more c.args.lines.now c.loop-line.line-index c.line-item.result c.loop-line-test.true c.line-item.is g.F.Folder.tells Answered _ _ _ _ _ _ c.loop-line.invariant.so_far plays _
+          SoFar-more c.args.lines.now c.loop-line.line-index c.line-item.result c.loop-line-test.true c.line-item.is g.F.Folder.tells Answered _ _ _ _ _ _ c.loop-line.invariant.so_far plays _ (λ next e. cc)
           plays.plays.replies.0 plays.plays.replies.1 plays.plays.replies.2 plays.plays.replies.3 plays.plays.account (rw c.as_slice.ensures.value at c.in-Ok.ensures.ok);
       sink_kept = omega arith;
     }

@@ -1,12 +1,12 @@
-use Rattle.std.proofs.Common.{◌≡◌, ℕ, inl, refl, sym, subst, arith}
+use Rattle.std.proofs.Common.{ℕ, inl, refl, sym, subst, arith}
 use Rattle.dir_files.specs.Images.{read_of}
 use Rattle.script_text.specs.declared.line.Mode.TheVariants.{Play}
 use Rattle.script_text.specs.Lines.{IsLine}
 use Rattle.std.specs.Prelude.{All}
 use Rattle.crash_law.specs.Restarts.{IsRestartable}
 use Rattle.restart_load.specs.Writers.{standings}
-use Rattle.store_drill.specs.Sessions.{Ran, Session, outside}
-use Rattle.store_drill.proofs.FolderLaws.{begun_resumed, not_begun, ran_after, restartable_since}
+use Rattle.store_drill.specs.Sessions.{outside}
+use Rattle.store_drill.proofs.FolderLaws.{begun_resumed, begun_within, not_begun, ran_after, restartable_since}
 use Rattle.store_drill.proofs.session.play.Goals as goal
 
 pub play_restarted-requires-clause-valid : goal.play_restarted-requires-clause-valid
@@ -23,10 +23,10 @@ play_restarted-requires-clause-restartable g c = λ y.
 
 pub returns-in-Ok-clause-ran : goal.returns-in-Ok-clause-ran
 returns-in-Ok-clause-ran g c =
-    ran_after g.F.Folder.tells c.args.limits.now.partitions c.args.lines.now (g.F.Folder.port c.args.folder.now) (g.F.Folder.port c.restart.new.folder) _ (g.F.Folder.count c.restart.new.folder)
+    ran_after g.F.Folder.tells c.args.limits.now c.args.lines.now (g.F.Folder.port c.args.folder.now) (g.F.Folder.port c.restart.new.folder) _ (g.F.Folder.count c.restart.new.folder)
     _ (outside g.F.Folder g.K.Sink c.play_restarted.new.folder c.play_restarted.new.out) c.play_restarted.result c.restart.ensures.images
-    (subst (λ (partitions : ℕ). Session g.F.Folder.tells partitions c.args.lines.now (outside g.F.Folder g.K.Sink c.restart.new.folder c.args.out.now)
-    (outside g.F.Folder g.K.Sink c.play_restarted.new.folder c.play_restarted.new.out) c.play_restarted.result) c.in-Ok.ensures.each c.play_restarted.ensures.session)
+    (c.play_restarted.ensures.session c.args.limits.now
+    (begun_within g.F.Folder.tells c.args.limits.now (read_of (g.F.Folder.port c.args.folder.now)) (standings c.in-Ok.writers.items) c.in-Ok.ensures.resumed) c.in-Ok.ensures.each)
 
 pub returns-in-Err-clause-ran : goal.returns-in-Err-clause-ran
 returns-in-Err-clause-ran g c =

@@ -1,11 +1,10 @@
-use Rattle.std.proofs.Common.{◌≡◌, ℕ, List, length, sym, subst, ap, ◌∙◌, arith}
+use Rattle.std.proofs.Common.{◌≡◌, ℕ, List, length, sym, subst, ◌∙◌, arith}
 use Rattle.std.proofs.lemmas.List.{length-map}
 use Rattle.dir_files.specs.Images.{read_of}
 use Rattle.partition_writer.specs.Standing.{Standing}
 use Rattle.partition_writer.specs.WriterViews.{standing}
 use Rattle.crash_law.specs.Restarts.{IsRestartable}
 use Rattle.restart_load.specs.Writers.{standings}
-use Rattle.store_drill.specs.Sessions.{Session, outside}
 use Rattle.store_drill.proofs.FolderLaws.{all_apart, all_own, played_numbers, played_stand, session_ran, started}
 use Rattle.store_drill.proofs.session.play_restarted.Goals as goal
 
@@ -33,16 +32,14 @@ pub returns-clause-calm : goal.returns-clause-calm
 returns-clause-calm g c = λ y. (c.close_writers.ensures.given_back y).calm
 
 pub returns-clause-session : goal.returns-clause-session
-returns-clause-session g c =
+returns-clause-session g c limits limited each =
     let begun : List Standing = standings c.args.writers.items in
     let writers : List Standing = standings c.play_on-ended.new.writers.items in
     let count : length begun ≡ length c.args.writers.items = length-map c.args.writers.items (λ writer. standing writer) in
     let same : length writers ≡ length begun = length-map c.play_on-ended.new.writers.items (λ writer. standing writer) ∙ c.play_on-ended.ensures.same ∙ sym count in
-    subst (λ (partitions : ℕ). Session g.F.Folder.tells partitions c.args.lines.now (outside g.F.Folder g.K.Sink c.args.folder.now c.args.out.now)
-    (outside g.F.Folder g.K.Sink c.close_writers.new.folder c.play_on-ended.new.out) c.play_on-ended.result) count
-    (session_ran _ _ begun writers _ _ _ c.requires.begun
-    (λ y. subst (λ (partitions : ℕ). IsRestartable (read_of (g.F.Folder.port c.args.folder.now)) partitions) (sym count) (c.requires.restartable y))
-    c.requires.at_rest c.play_on-ended.ensures.played same c.close_writers.ensures.given_back c.close_writers.ensures.held)
+    session_ran _ limits _ begun writers _ _ _ c.requires.begun limited (count ∙ each)
+    (λ y. subst (λ (partitions : ℕ). IsRestartable (read_of (g.F.Folder.port c.args.folder.now)) partitions) each (c.requires.restartable y))
+    c.requires.at_rest c.play_on-ended.ensures.played same c.close_writers.ensures.given_back c.close_writers.ensures.held
 
 pub returns-clause-disk : goal.returns-clause-disk
 returns-clause-disk g c = λ is. omega (arith, c.play_on-ended.ensures.disk is, c.close_writers.ensures.count)

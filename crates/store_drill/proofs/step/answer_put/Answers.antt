@@ -11,8 +11,9 @@ use Rattle.record_format.specs.Spelling.{spelling}
 use Rattle.record_format.proofs.HeaderLaws.{spelling_length}
 use Rattle.partition_writer.specs.WriterViews.{standing}
 use Rattle.store_drill.specs.declared.step.Step.{Step}
+use Rattle.store_drill.specs.Numbers.{piece_of}
 use Rattle.store_drill.specs.Playing.{Plays}
-use Rattle.store_drill.proofs.StepLaws.{Done, done_counts, done_goes, done_maps, done_partition, none_unless, plays_answered, plays_refused, spent_limit}
+use Rattle.store_drill.proofs.StepLaws.{Done, done_counts, done_goes, done_maps, done_needed, done_partition, needed_spent, none_unless, piece_for, plays_answered, plays_refused}
 use Rattle.store_drill.proofs.step.answer_put.Goals as goal
 
 pub returns-in-Ok-None : goal.returns-in-Ok-None
@@ -24,9 +25,11 @@ returns-in-Ok-None g c =
     let unspent : spent_by s Value (length (spelling r)) ≡ None =
     subst (λ (len : ℕ). spent_by s Value len ≡ None) (sym (spelling_length r)) (none_unless _ (λ next is. let spent = (c.in-Ok-None.ensures.spent next).1 (c.requires.running, is) in cc)) in
     let done : Done s t r = inl (refl, unspent, c.in-Ok-None.ensures.written) in
-    plays_answered g.F.Folder.tells (Put c.args.p c.args.prefix c.args.key.now c.args.value.now) s t c.reply.new.text.items c.reply.result c.reply.ensures.only
+    let line = Put c.args.p c.args.prefix c.args.key.now c.args.value.now in
+    let gives : piece_of line ≡ Some (piece_for Value (length (spelling r))) = ap (λ (len : ℕ). Some (piece_for Value len)) (sym (spelling_length r)) in
+    plays_answered g.F.Folder.tells line s t c.reply.new.text.items c.reply.result c.reply.ensures.only
     (λ e. c.reply.ensures.text e ∙ ap (λ (first : List ℕ). first ++ old_text c.args.p.0 None) c.requires.cleared ∙ ap (λ (o : Option Content). old_text c.args.p.0 o) before)
-    (done_maps s t r done) (done_goes s t r c.in-Ok-None.ensures.disk.ok done) (done_counts s t r (Put c.args.p c.args.prefix c.args.key.now c.args.value.now) refl done) (done_partition s t r done) c.in-Ok-None.ensures.account
+    (done_maps s t r done) (done_goes s t r c.in-Ok-None.ensures.disk.ok done) (done_counts s t r line refl gives done) (done_needed s t r line refl gives done) (done_partition s t r done) c.in-Ok-None.ensures.account
 
 pub returns-in-Ok-Some : goal.returns-in-Ok-Some
 returns-in-Ok-Some g c =
@@ -37,10 +40,12 @@ returns-in-Ok-Some g c =
     let unspent : spent_by s Value (length (spelling r)) ≡ None =
     subst (λ (len : ℕ). spent_by s Value len ≡ None) (sym (spelling_length r)) (none_unless _ (λ next is. let spent = (c.in-Ok-Some.ensures.spent next).1 (c.requires.running, is) in cc)) in
     let done : Done s t r = inl (refl, unspent, c.in-Ok-Some.ensures.written) in
-    plays_answered g.F.Folder.tells (Put c.args.p c.args.prefix c.args.key.now c.args.value.now) s t c.reply-in-Ok-Some.new.text.items c.reply-in-Ok-Some.result c.reply-in-Ok-Some.ensures.only
+    let line = Put c.args.p c.args.prefix c.args.key.now c.args.value.now in
+    let gives : piece_of line ≡ Some (piece_for Value (length (spelling r))) = ap (λ (len : ℕ). Some (piece_for Value len)) (sym (spelling_length r)) in
+    plays_answered g.F.Folder.tells line s t c.reply-in-Ok-Some.new.text.items c.reply-in-Ok-Some.result c.reply-in-Ok-Some.ensures.only
     (λ e. c.reply-in-Ok-Some.ensures.text e ∙ ap (λ (first : List ℕ). first ++ old_text c.args.p.0 (Some (content_of c.as_slice.result.now))) c.requires.cleared
     ∙ ap (λ (value : List ℕ). old_text c.args.p.0 (Some (content_of value))) c.as_slice.ensures ∙ ap (λ (o : Option Content). old_text c.args.p.0 o) before)
-    (done_maps s t r done) (done_goes s t r c.in-Ok-Some.ensures.disk.ok done) (done_counts s t r (Put c.args.p c.args.prefix c.args.key.now c.args.value.now) refl done) (done_partition s t r done) c.in-Ok-Some.ensures.account
+    (done_maps s t r done) (done_goes s t r c.in-Ok-Some.ensures.disk.ok done) (done_counts s t r line refl gives done) (done_needed s t r line refl gives done) (done_partition s t r done) c.in-Ok-Some.ensures.account
 
 pub returns-in-Err : goal.returns-in-Err
 returns-in-Err g c =
@@ -49,4 +54,6 @@ returns-in-Err g c =
     subst (λ (step : Step). Plays g.F.Folder.tells step line s (standing c.put.new.self) c.args.text.now.items) (sym c.refused.ensures)
     (plays_refused _ g.F.Folder.tells line s (standing c.put.new.self) c.args.text.now.items (put_record s.next c.args.prefix c.args.key.now c.args.value.now) c.in-Err.refusal
     c.in-Err.ensures.written c.in-Err.ensures.disk.memory c.in-Err.ensures.disk.cause (λ at is. (c.in-Err.ensures.halted at).0 is) c.requires.running
-    (λ next is. record { written = refl; limit = spent_limit s Value (record_length Value (length c.args.key.now) (length c.args.value.now)) next ((c.in-Err.ensures.spent next).0 is).1 }) (λ a. refl) c.in-Err.ensures.account)
+    (λ next is. needed_spent line s Value (record_length Value (length c.args.key.now) (length c.args.value.now)) refl refl ∙ ((c.in-Err.ensures.spent next).0 is).1)
+    (λ next is. (c.in-Err.ensures.spent next).1 (c.requires.running, sym (needed_spent line s Value (record_length Value (length c.args.key.now) (length c.args.value.now)) refl refl) ∙ is))
+    (λ a. refl) c.in-Err.ensures.account)

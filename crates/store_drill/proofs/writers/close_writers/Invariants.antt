@@ -1,4 +1,4 @@
-use Rattle.std.proofs.Common.{vec_len, ◌≤◌}
+use Rattle.std.proofs.Common.{vec_len}
 use Rattle.restart_load.specs.Writers.{standings}
 use Rattle.store_drill.proofs.FolderLaws.{Closing}
 use Rattle.store_drill.proofs.writers.close_writers.Given as goal
