@@ -839,6 +839,45 @@ fn a_full_chunk_is_followed_by_another(rt: HostRuntime) -> Result<(), Fail> {
     Ok(())
 }
 
+/// The last chunk but one was found, so that a value begins the last one. A second value goes there where the limit allows
+/// it, and else needs one more, as a tombstone does. A removal of an absent key needs none.
+#[test]
+fn the_last_chunk_is_filled_to_its_limit(rt: HostRuntime) -> Result<(), Fail> {
+    let alloc = rt.alloc();
+    let found = Stored {
+        name: "p00-v-0000fffffffffffe.chunk",
+        pieces: &[V(1, 1, b"z", b"0")],
+    };
+    let rows: [(&str, usize, &[u8], usize); 2] = [
+        (
+            "room for both",
+            4045,
+            b"0 none\n0 none\n0 none\nrefused spent 281474976710656\n",
+            4096,
+        ),
+        (
+            "room for one",
+            4046,
+            b"0 none\n0 none\nrefused spent 281474976710656\n",
+            4071,
+        ),
+    ];
+    for (name, letters, printed, size) in rows {
+        let mut script = b"0 remove 1 y\n0 put 1 a ".to_vec(alloc)?;
+        script.resize(script.len().saturating_add(letters), b'x')?;
+        script.extend_from_slice(b"\n0 put 1 b y\n0 remove 1 z\n")?;
+        let words = "DIR play --value-limit 4096 --tomb-limit 8192";
+        let mut disk = disk_with(&rt, alloc, &[found], Vec::new(alloc))?;
+        let told = run(&rt, alloc, &mut disk, words, script.as_slice())?;
+        told.expect(&rt, name, 8, printed);
+        let last = disk
+            .bytes(name_of("p00-v-0000ffffffffffff.chunk")?)
+            .map(|bytes| bytes.len());
+        assert_eq!(&rt; last, Some(size), "{name}");
+    }
+    Ok(())
+}
+
 /// One put, one sync and one get for each of 64 partitions, and then a dump.
 #[test]
 fn sixty_four_partitions(rt: HostRuntime) -> Result<(), Fail> {
