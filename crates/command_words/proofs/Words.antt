@@ -14,7 +14,7 @@ use Rattle.command_words.specs.declared.table.Verb.TheVariants.{Play, Dump}
 use Rattle.command_words.specs.declared.table.Setting.{Setting}
 use Rattle.command_words.specs.declared.table.Setting.TheVariants.{Partitions, ValueLimit, TombLimit, Percent}
 use Rattle.command_words.specs.Table.{verb_name, settings_of, option_word, default_of, IsNumberFor}
-use Rattle.command_words.specs.Words.{Given, words_of, IsOptions, IsCommand, HasLimits, is_of, number_of, limits_of, command_of, with_number}
+use Rattle.command_words.specs.Words.{Given, words_of, IsOptions, IsCommand, IsInLimits, HasLimits, is_of, number_of, limits_of, command_of, with_number}
 
 abbrev pub Differs : Setting → Given → Type 0
 Differs s given = s ≢ given.setting
@@ -187,15 +187,18 @@ number_of_fits s (g ∷ gs) ranges =
     (All-head IsInRange g gs ranges) (number_of_fits s gs (All-tail IsInRange g gs ranges))
 
 -- limits that options set are in their ranges
-pub limits_fit : (verb : Verb) (words : List (List ℕ)) (limits : Limits) → HasLimits verb words limits → IsLimits limits
-limits_fit verb words limits h =
-    let fit = λ (s : Setting). number_of_fits s h.givens h.read.ranges in
-    subst IsLimits (sym h.meaning) (record {
+ranges_fit : (givens : List Given) → All IsInRange givens → IsLimits (limits_of givens)
+ranges_fit givens ranges =
+    let fit = λ (s : Setting). number_of_fits s givens ranges in
+    record {
       partitions = record { some = (fit Partitions).least; few = (fit Partitions).most };
       value = record { least = (fit ValueLimit).least; most = (fit ValueLimit).most };
       tomb = record { least = (fit TombLimit).least; most = (fit TombLimit).most };
       percent = (fit Percent).most;
-    })
+    }
+
+pub limits_fit : (verb : Verb) (words : List (List ℕ)) (limits : Limits) → HasLimits verb words limits → IsLimits limits
+limits_fit verb words limits h = subst IsLimits (sym h.meaning) (ranges_fit h.givens h.read.ranges)
 
 one_given : (a b : Given) → IsInRange a → IsInRange b → option_word a.setting ≡ option_word b.setting → decimal a.number ≡ decimal b.number → a ≡ b
 one_given a b x y named spelled =
@@ -225,6 +228,14 @@ one_verb Play Play e = refl
 one_verb Dump Dump e = refl
 one_verb Play Dump e = absurd (omega (arith, ap (λ (xs : List ℕ). get_or xs 0 0) e))
 one_verb Dump Play e = absurd (omega (arith, ap (λ (xs : List ℕ). get_or xs 0 0) e))
+
+in_range : (verb : Verb) (givens : List Given) (command : Command) → All IsInRange givens → command ≡ command_of verb givens → IsInLimits command
+in_range Play givens command ranges is = subst IsInLimits (sym is) (ranges_fit givens ranges)
+in_range Dump givens command ranges is = subst IsInLimits (sym is) (ranges_fit givens ranges)
+
+-- those of a command are
+pub limits_in_range : (words : List (List ℕ)) (command : Command) → IsCommand words command → IsInLimits command
+limits_in_range words command is = in_range is.verb is.givens command is.read.ranges is.meaning
 
 -- words mean one command at most
 pub one_meaning : (words : List (List ℕ)) (a b : Command) → IsCommand words a → IsCommand words b → a ≡ b

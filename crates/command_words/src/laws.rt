@@ -2,11 +2,16 @@
 
 ghost use Rattle.std.specs.Prelude.{◌≡◌, ℕ, List, All, drop};
 ghost use Rattle.command_words.specs.declared.read.Command.{Command};
-ghost use Rattle.command_words.specs.Words.{IsCommand, IsLaterWord};
+ghost use Rattle.command_words.specs.Words.{IsCommand, IsInLimits, IsLaterWord};
 
 /// Words mean one command at most.
 pub fn one_meaning()
     ensures { (words : List (List ℕ)) (a b : Command) → IsCommand words a → IsCommand words b → a ≡ b }
+{}
+
+/// The limits of a command are in their ranges.
+pub fn limits_in_range()
+    ensures { (words : List (List ℕ)) (command : Command) → IsCommand words command → IsInLimits command }
 {}
 
 /// No word behind the folder has a `=`, and none but an option's name begins with a hyphen.

@@ -9,7 +9,7 @@ use Rattle.script_text.specs.declared.line.Line.{Line}
 use Rattle.script_text.specs.declared.line.Mode.TheVariants.{Play}
 use Rattle.script_text.proofs.Readings.{one_reading}
 use Rattle.store_drill.specs.Numbers.{IsSpentAt}
-use Rattle.store_drill.proofs.StartLaws.{are_for, one_start, spent_same}
+use Rattle.store_drill.proofs.StartLaws.{one_spending}
 use Rattle.hotrestart_cli.specs.Scripts.{IsFit}
 use Rattle.hotrestart_cli.specs.Served.{WasPlayed, WillSpend}
 
@@ -32,5 +32,4 @@ wanting_undone tells limits image (Some bytes) before now y valid will played =
     let same : will.lines ≡ played.lines = one_reading Play limits.partitions bytes will.lines played.lines few will.script.1 played.script.1 in
     played.unspent will.count will.next
     (subst (λ (lines : List Line). IsSpentAt limits lines will.count played.start will.next) same
-    (spent_same limits limits.partitions will.lines will.count will.start played.start will.next (are_for Play limits.partitions will.lines will.script.1.valid)
-    (one_start image limits.partitions will.start played.start will.started (played.started y)) will.spent))
+    (one_spending image limits will.lines will.count will.start played.start will.next will.script.1.valid will.started (played.started y) will.spent))

@@ -2,6 +2,6 @@ mod DumpLaws
 mod FolderLaws
 mod NumberLaws
 mod SessionLaws
-mod StartLaws
+pub mod StartLaws
 mod StepLaws
 mod WriterListLaws

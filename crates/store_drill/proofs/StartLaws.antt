@@ -1,9 +1,8 @@
 -- A folder restarts to one start, and what lines need hangs only on what partitions that are there begin with.
-use Rattle.std.specs.Prelude.{◌≡◌, ◌⊎◌, ℕ, ◌+◌, ◌<◌, ◌==◌, Bool, true, false, List, [], ◌∷◌, All, take, Option, None, Some, slice_get, refl, zero, suc, if◌then◌else◌}
+use Rattle.std.specs.Prelude.{◌≡◌, ℕ, ◌<◌, ◌==◌, Bool, true, false, List, [], ◌∷◌, All, take, None, Some, slice_get, zero, suc, if◌then◌else◌}
 use Rattle.std.proofs.Common.{sym, ◌∙◌, ap, subst, inl, inr, arith}
 use Rattle.std.proofs.lemmas.List.Elements.{All-head, All-tail}
 use Rattle.hr_base.specs.declared.limits.Limits.{Limits}
-use Rattle.hr_base.specs.declared.name.ChunkName.{ChunkName}
 use Rattle.hr_base.specs.Entries.{Entries}
 use Rattle.dir_files.specs.Images.{Image}
 use Rattle.record_format.specs.declared.record.Record.{Record}
@@ -12,6 +11,7 @@ use Rattle.crash_law.proofs.RestartLaws.{one_restart_of}
 use Rattle.record_replay.specs.Replays.{IsNext}
 use Rattle.script_text.specs.declared.line.Line.{Line}
 use Rattle.script_text.specs.declared.line.Mode.{Mode}
+use Rattle.script_text.specs.declared.line.Mode.TheVariants.{Play}
 use Rattle.script_text.specs.Lines.{IsLine, partition_of}
 use Rattle.script_text.specs.Replies.{changed_at, maps_after_line, maps_after_lines, maps_after_one}
 use Rattle.restart_load.specs.Writers.{IsNextChunk}
@@ -52,12 +52,12 @@ abbrev SameBelow : {A : Type 0} → ℕ → (ℕ → A) → (ℕ → A) → Type
 SameBelow partitions f g = (p : ℕ) → p < partitions → f p ≡ g p
 
 -- two starts with the same maps and numbers
-pub record SameStart (partitions : ℕ) (a b : Start) : Type 0 where
+record SameStart (partitions : ℕ) (a b : Start) : Type 0 where
   pub maps : SameBelow partitions a.maps b.maps
   pub next : SameBelow partitions a.next b.next
   pub next_chunk : SameBelow partitions a.next_chunk b.next_chunk
 
-pub one_start : (image : Image) (partitions : ℕ) (a b : Start) → IsStart image partitions a → IsStart image partitions b → SameStart partitions a b
+one_start : (image : Image) (partitions : ℕ) (a b : Start) → IsStart image partitions a → IsStart image partitions b → SameStart partitions a b
 one_start image partitions a b x y = record {
   maps = λ p below. one_restart_of (Fact image p) (a.maps p) (b.maps p) (x.maps.restartable.parts p below).agree (x.maps.each p below) (y.maps.each p below);
   next = λ p below. one_next (Fact image p) (a.next p) (b.next p) (x.next p below) (y.next p below);
@@ -77,7 +77,7 @@ abbrev AreFor : ℕ → List Line → Type 0
 AreFor partitions [] = Unit {0}
 AreFor partitions (line ∷ lines) = (partition_of line < partitions) × AreFor partitions lines
 
-pub are_for : (mode : Mode) (partitions : ℕ) (lines : List Line) → All (IsLine mode partitions) lines → AreFor partitions lines
+are_for : (mode : Mode) (partitions : ℕ) (lines : List Line) → All (IsLine mode partitions) lines → AreFor partitions lines
 are_for mode partitions [] all = tt
 are_for mode partitions (line ∷ lines) all =
     (of_partition mode partitions line (All-head (IsLine mode partitions) line lines all), are_for mode partitions lines (All-tail (IsLine mode partitions) line lines all))
@@ -110,7 +110,7 @@ numbers_same limits partitions (line ∷ lines) m k a b all maps same =
     (ap (λ (n : Numbers). numbers_after limits n (written_for line (m p))) (same p all.0) ∙ ap (λ (e : Entries). numbers_after limits (b p) (written_for line e)) (maps p all.0)))
 
 -- a line that needs a number which none can have does so over each of them
-pub spent_same : (limits : Limits) (partitions : ℕ) (lines : List Line) (count : ℕ) (a b : Start) (next : ℕ) → AreFor partitions lines → SameStart partitions a b
+spent_same : (limits : Limits) (partitions : ℕ) (lines : List Line) (count : ℕ) (a b : Start) (next : ℕ) → AreFor partitions lines → SameStart partitions a b
     → IsSpentAt limits lines count a next → IsSpentAt limits lines count b next
 spent_same limits partitions lines count a b next all same spent =
     let p : ℕ = partition_of spent.line in
@@ -128,3 +128,9 @@ spent_same limits partitions lines count a b next all same spent =
           ∙ ap (λ (e : Entries). wanting limits (numbers_after_lines limits (take count lines) b.maps (numbers_at b) p) (written_for spent.line e)) maps)
           ∙ spent.needs;
     }
+
+-- and so over each start of the folder
+pub one_spending : (image : Image) (limits : Limits) (lines : List Line) (count : ℕ) (a b : Start) (next : ℕ) → All (IsLine Play limits.partitions) lines
+    → IsStart image limits.partitions a → IsStart image limits.partitions b → IsSpentAt limits lines count a next → IsSpentAt limits lines count b next
+one_spending image limits lines count a b next all x y spent =
+    spent_same limits limits.partitions lines count a b next (are_for Play limits.partitions lines all) (one_start image limits.partitions a b x y) spent

@@ -2,6 +2,7 @@
 #![tactic(auto)]
 
 mod dumping;
+pub mod laws;
 mod lines;
 mod output;
 mod session;

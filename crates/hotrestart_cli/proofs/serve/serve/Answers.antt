@@ -1,10 +1,11 @@
 use Rattle.std.proofs.Common.{◌∙◌, ap, inl, inr}
 use Rattle.command_words.specs.declared.read.Command.TheVariants.{Play}
+use Rattle.command_words.proofs.Words.{limits_in_range}
 use Rattle.restart_load.proofs.LoadLaws.{not_refused}
 use Rattle.hotrestart_cli.specs.Outcome.{last_line}
 use Rattle.hotrestart_cli.specs.Served.{WasDone, WasRefused, WasSpentBy, WasUnloadable, partitions_of}
 use Rattle.hotrestart_cli.proofs.Doings.{begins_fit, begins_loadable, begins_unspent, done_restarts, done_told, number_told, read_told, spent_restarts, unwritten_by}
-use Rattle.hotrestart_cli.proofs.Meanings.{means_this, play_limits, rose_earlier, rose_later}
+use Rattle.hotrestart_cli.proofs.Meanings.{means_this, rose_earlier, rose_later}
 use Rattle.hotrestart_cli.proofs.Outcomes.{all_done, disk_told, early_told, input_told, wordless_told, wanting_told, words_told, wrong_told}
 use Rattle.hotrestart_cli.proofs.Refusals.{fit_refused, refused_told, unfit_told, unloadable_told}
 use Rattle.hotrestart_cli.proofs.Spendings.{wanting_fit, wanting_restarts, wanting_undone}
@@ -86,7 +87,7 @@ returns-clause-wanting g c y limits meaning will =
     let heard = c.tell.ensures.told in
     let because = c.run-outcome.ensures.because in
     wanting_told _ _ _ _ heard
-    (λ e. wanting_undone _ limits _ _ _ _ y (play_limits _ limits meaning) will (means_this _ (λ x. WasDone _ x _ _ _ _) (Play limits) meaning (done_told _ _ _ _ _ _ _ because heard e)))
+    (λ e. wanting_undone _ limits _ _ _ _ y (limits_in_range _ (Play limits) meaning) will (means_this _ (λ x. WasDone _ x _ _ _ _) (Play limits) meaning (done_told _ _ _ _ _ _ _ because heard e)))
     (λ e. (c.run-outcome.ensures.words (words_told _ _ _ _ heard e)).0 (Play limits) meaning)
     (λ e. fit_refused (Play limits) _ _ _ _ (wanting_fit limits _ _ will) (means_this _ (λ x. WasRefused x _ _ _ _) (Play limits) meaning (refused_told _ _ _ _ _ _ _ because heard e)))
     (λ e.
