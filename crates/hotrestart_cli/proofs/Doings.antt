@@ -102,7 +102,7 @@ spent_in tells limits before mid now next y ran taken =
         spent = session.spends.spent next refl;
         first = λ earlier other below. session.spends.unspent earlier other below;
         number = session.number y next refl;
-        text = Takes-append before.outside.taken mid.outside.taken now _ (last_line (Ended (Spent next))) session.text taken;
+        text = Takes-append before.outside.taken mid.outside.taken now _ (last_line (Ended (Spent next))) session.text.1 taken;
       }
     ]
 

@@ -357,6 +357,7 @@ session_ran tells limits lines begun writers old new ended all limited parts res
       count = played.count;
       within = played.within;
       all = played.all;
+      replied = played.replied;
       text = played.text start.maps have.maps;
       spends = played.spends limits start have;
       number = λ y. played.number (begun_limited tells (read_of old.port) begun all y);
@@ -407,6 +408,7 @@ ran_after tells limits lines old mid faults more taken new ended keeps session =
   count = session.count;
   within = session.within;
   all = session.all;
+  replied = session.replied;
   text = session.text;
   spends = session.spends;
   number = session.number;

@@ -277,14 +277,14 @@ module _ (lines : List Line) (i : ℕ) (line : Line) (within : i < length lines)
           count = i + 1;
           within = omega (arith, within);
           all = λ e. cc;
+          replied = i;
           text = λ m each. (
-            i,
             refl,
             subst (λ (t : List ℕ). TakesAtLeast (length (replies (take i lines) m)) before now t) (reply_is m each told)
                 (TakesAtLeast-append before then' now (replies (take i lines) m) text (so.text m each) took),
           );
           numbers = going.numbers;
-          spends = λ limits start have. record { unspent = going.unspent limits start have; spent = λ next e. cc; told = λ next spent. inr (inl refl) };
+          spends = λ limits start have. record { unspent = going.unspent limits start have; spent = λ next e. cc; told = λ next spent. inr (inl refl, refl) };
           number = λ limited next e. cc;
           whole = λ other. whole_all new going.runs;
           account = going.account;
@@ -300,26 +300,32 @@ module _ (lines : List Line) (i : ℕ) (line : Line) (within : i < length lines)
           count = i + 1;
           within = omega (arith, within);
           all = λ e. cc;
-          text = λ m each. (i, omega arith, omega arith, so.text m each);
+          replied = i;
+          text = λ m each. (omega arith, omega arith, so.text m each);
           numbers = going.numbers;
-          spends = λ limits start have. record { unspent = going.unspent limits start have; spent = λ next e. cc; told = λ next spent. inr (inr refl) };
+          spends = λ limits start have. record { unspent = going.unspent limits start have; spent = λ next e. cc; told = λ next spent. inr (inr refl, refl) };
           number = λ limited next e. cc;
           whole = λ other. whole_all new going.runs;
           account = going.account;
         }
 
     -- there was no memory for it
-    pub played_unanswered : GoesOn plays.before plays.after → (tells ≡ true → (b : Beginning) (a : Account) → Stands plays.before b a → Stands plays.after b a)
+    pub played_unanswered : ((next : ℕ) → step ≡ Spent next → ⊥) → GoesOn plays.before plays.after → (tells ≡ true → (b : Beginning) (a : Account) → Stands plays.before b a → Stands plays.after b a)
         → Played tells lines old new before then' Memory
-    played_unanswered goes account = record {
+    played_unanswered other goes account = record {
       count = i;
       within = omega (arith, within);
       all = λ e. cc;
-      text = λ m each. (i, omega arith, omega arith, so.text m each);
+      replied = i;
+      text = λ m each. (omega arith, omega arith, so.text m each);
       numbers = λ each. numbers_stay tells step line mid new text plays (so.going.numbers each);
-      spends = λ limits start have. record { unspent = so.going.unspent limits start have; spent = λ next e. cc; told = λ next spent. inr (inr refl) };
+      spends = λ limits start have. record {
+        unspent = so.going.unspent limits start have;
+        spent = λ next e. cc;
+        told = λ next spent. absurd (not_spent other limits start have next spent);
+      };
       number = λ limited next e. cc;
-      whole = λ other. whole_all new (all_run tells step line mid new text plays so.going.runs goes);
+      whole = λ running. whole_all new (all_run tells step line mid new text plays so.going.runs goes);
       account = λ y begins a each.
           accounts_stay tells step line mid new text plays begins (accounts_after_lines (take i lines) a) (so.going.account y begins a each)
           (account y (begins (partition_of line)) (accounts_after_lines (take i lines) a (partition_of line)));
@@ -332,7 +338,8 @@ module _ (lines : List Line) (i : ℕ) (line : Line) (within : i < length lines)
       count = i;
       within = omega (arith, within);
       all = λ e. cc;
-      text = so.text;
+      replied = i;
+      text = λ m each. (refl, so.text m each);
       numbers = λ each. numbers_stay tells step line mid new text plays (so.going.numbers each);
       spends = λ limits start have. record {
         unspent = so.going.unspent limits start have;
@@ -354,7 +361,8 @@ module _ (lines : List Line) (i : ℕ) (line : Line) (within : i < length lines)
       count = i;
       within = omega (arith, within);
       all = λ e. cc;
-      text = so.text;
+      replied = i;
+      text = λ m each. (refl, so.text m each);
       numbers = λ each. numbers_stay tells step line mid new text plays (so.going.numbers each);
       spends = λ limits start have. record {
         unspent = so.going.unspent limits start have;
@@ -384,6 +392,7 @@ played_whole tells lines i old new before now so end =
       count = length lines;
       within = omega arith;
       all = λ _. refl;
+      replied = length lines;
       text = λ m each. subst (λ (ls : List Line). Takes before now (replies ls m)) all (so.text m each);
       numbers = so.going.numbers;
       spends = λ limits start have. record {

@@ -120,12 +120,12 @@ pub record IsSpentAt (limits : Limits) (lines : List Line) (count : ℕ) (start 
   pub needs : wanting limits (numbers_after_lines limits (take count lines) start.maps (numbers_at start) (partition_of line))
       (written_for line (maps_after_lines (take count lines) start.maps (partition_of line))) ≡ Some next
 
--- A session answered so many lines. None of them needed such a number; it ended for want of one exactly where the next line
--- needs it, unless memory or the sink failed at the reply before.
-pub record SpendsAt (limits : Limits) (lines : List Line) (count : ℕ) (start : Start) (ended : Ended) : Type 0 where
+-- A session answered so many lines, and wrote so many replies. None of the lines needed such a number; it ended for want of
+-- one exactly where the next line needs it, unless memory or the sink failed at the reply before.
+pub record SpendsAt (limits : Limits) (lines : List Line) (count replied : ℕ) (start : Start) (ended : Ended) : Type 0 where
   pub unspent : (i next : ℕ) → i < count → ¬ IsSpentAt limits lines i start next
   pub spent : (next : ℕ) → ended ≡ Spent next → IsSpentAt limits lines count start next
-  pub told : (next : ℕ) → IsSpentAt limits lines count start next → (ended ≡ Spent next) ⊎ (ended ≡ Sink) ⊎ (ended ≡ Memory)
+  pub told : (next : ℕ) → IsSpentAt limits lines count start next → (ended ≡ Spent next) ⊎ (((ended ≡ Sink) ⊎ (ended ≡ Memory)) × (count ≡ replied + 1))
 
 -- the two numbers that none can have: of a record, and of a chunk
 abbrev pub IsEnd : ℕ → Type 0

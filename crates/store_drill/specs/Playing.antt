@@ -95,10 +95,11 @@ pub record Played (tells : Bool) (lines : List Line) (old new : List Standing) (
   pub count : ℕ
   pub within : count ≤ length lines
   pub all : ended ≡ Whole → count ≡ length lines
-  pub text : (maps : ℕ → Entries) → EachFits HasMaps old maps → TextAt ended lines count maps before now
+  pub replied : ℕ
+  pub text : (maps : ℕ → Entries) → EachFits HasMaps old maps → TextAt ended lines count replied maps before now
   pub numbers : EachFits HasNumber old (λ p. p) → EachFits HasNumber new (λ p. p)
   -- no answered line needed a number that none can have, and want of one ended it exactly where the next line needs it
-  pub spends : (limits : Limits) (start : Start) → HaveStart limits old start → SpendsAt limits lines count start ended
+  pub spends : (limits : Limits) (start : Start) → HaveStart limits old start → SpendsAt limits lines count replied start ended
   pub number : EachIs IsLimited old → (next : ℕ) → ended ≡ ends.Spent next → IsEnd next
   -- unless the disk refused a line, no record lacks bytes
   pub whole : (ended ≡ Disk → ⊥) → EachIs IsWhole new

@@ -43,16 +43,16 @@ pub record IsStart (image : Image) (partitions : ℕ) (start : Start) : Type 0 w
 
 -- ---- what it writes
 
--- What was written in a session that ended so after so many answered lines, over the maps that each partition began
--- with: the replies to them, but that a failing sink took a front of the last one, and that the last one is missing
--- where there was no memory for it.
-abbrev pub TextAt : Ended → List Line → ℕ → (ℕ → Entries) → Option (List ℕ) → Option (List ℕ) → Type 0
-TextAt Whole lines count maps old new = Takes old new (replies lines maps)
-TextAt Disk lines count maps old new = Takes old new (replies (take count lines) maps)
-TextAt (Spent next) lines count maps old new = Takes old new (replies (take count lines) maps)
-TextAt Sink lines count maps old new = (told : ℕ) × (count ≡ told + 1) × TakesAtLeast (length (replies (take told lines) maps)) old new (replies (take count lines) maps)
-TextAt Memory lines count maps old new = (told : ℕ) × (told ≤ count) × (count ≤ told + 1) × Takes old new (replies (take told lines) maps)
-TextAt (Load refusal) lines count maps old new = ⊥
+-- What was written in a session that ended so, over the maps that each partition began with: the replies to the lines
+-- that were answered. Where the sink failed, it took all but the last one, and a front of that; where there was no memory
+-- for the last one, it is missing. So many replies were written whole.
+abbrev pub TextAt : Ended → List Line → ℕ → ℕ → (ℕ → Entries) → Option (List ℕ) → Option (List ℕ) → Type 0
+TextAt Whole lines count replied maps old new = Takes old new (replies lines maps)
+TextAt Disk lines count replied maps old new = (replied ≡ count) × Takes old new (replies (take count lines) maps)
+TextAt (Spent next) lines count replied maps old new = (replied ≡ count) × Takes old new (replies (take count lines) maps)
+TextAt Sink lines count replied maps old new = (count ≡ replied + 1) × TakesAtLeast (length (replies (take replied lines) maps)) old new (replies (take count lines) maps)
+TextAt Memory lines count replied maps old new = (replied ≤ count) × (count ≤ replied + 1) × Takes old new (replies (take replied lines) maps)
+TextAt (Load refusal) lines count replied maps old new = ⊥
 
 -- ---- what it leaves
 
@@ -82,10 +82,11 @@ pub record Session (tells : Bool) (limits : Limits) (lines : List Line) (old new
   pub count : ℕ
   pub within : count ≤ length lines
   pub all : ended ≡ Whole → count ≡ length lines
-  -- the replies that were written
-  pub text : TextAt ended lines count start.maps old.taken new.taken
+  -- the replies that were written, so many of them whole
+  pub replied : ℕ
+  pub text : TextAt ended lines count replied start.maps old.taken new.taken
   -- no answered line needed a number that none can have, and want of one ended it exactly where the next line needs it
-  pub spends : SpendsAt limits lines count start ended
+  pub spends : SpendsAt limits lines count replied start ended
   pub number : tells ≡ true → (next : ℕ) → ended ≡ Spent next → IsEnd next
   -- every crash leaves each key of each partition its state after a number of its own commands, which holds all that was
   -- synced

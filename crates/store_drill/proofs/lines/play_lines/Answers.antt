@@ -32,7 +32,7 @@ returns-in-NoReply-clause-played g c =
 pub returns-in-NoMemory-clause-played : goal.returns-in-NoMemory-clause-played
 returns-in-NoMemory-clause-played g c =
     let plays : PlaysAmong g.F.Folder.tells NoMemory c.line-item.result (standings c.loop-line.writers) (standings c.answer.new.writers) c.answer.new.text.items = c.in-NoMemory.ensures in
-    played_unanswered c.args.lines.now c.loop-line.line-index c.line-item.result c.loop-line-test.true c.line-item.is g.F.Folder.tells NoMemory _ _ _ _ _ _ c.loop-line.invariant.so_far plays
+    played_unanswered c.args.lines.now c.loop-line.line-index c.line-item.result c.loop-line-test.true c.line-item.is g.F.Folder.tells NoMemory _ _ _ _ _ _ c.loop-line.invariant.so_far plays (λ next e. cc)
     plays.plays.replies.1 plays.plays.account
 
 pub returns-in-DiskFailed-clause-played : goal.returns-in-DiskFailed-clause-played
