@@ -1,13 +1,12 @@
 -- The maps of a folder as text: one piece after another.
-use Rattle.std.specs.Prelude.{◌≡◌, ◌≢◌, ◌⊎◌, ℕ, ◌+◌, ◌<◌, ◌≤◌, Bool, true, List, [], ◌∷◌, ◌++◌, length, map, drop, take, slice_get, slice_index_or, Option, Some, None, refl, zero, suc}
-use Rattle.std.specs.List.{flat_map}
+use Rattle.std.specs.Prelude.{◌≡◌, ◌≢◌, ◌⊎◌, ℕ, ◌+◌, ◌<◌, ◌≤◌, Bool, true, List, [], ◌∷◌, ◌++◌, length, map, drop, take, slice_index_or, Option, Some, None, refl, zero, suc}
 use Rattle.std.specs.FinMap.{entries as entries_of}
 use Rattle.std.proofs.Common.{sym, ◌∙◌, ap, subst, inl, inr, arith, append_assoc}
 use Rattle.std.proofs.lemmas.Grind.{flat_map-append}
 use Rattle.std.proofs.lemmas.List.{append-nil, length-append, map-append, take-append-drop, take-append-le, take_all, take_more}
 use Rattle.std.proofs.lemmas.Simd.{map-map}
 use Rattle.std.proofs.Math.Seq.{take-append-add, take-append_seam}
-use Rattle.hr_base.specs.Entries.{Content, Entries, Key}
+use Rattle.hr_base.specs.Entries.{Entries}
 use Rattle.hr_edges.specs.Edges.{Takes, TakesAtLeast, TakesFront}
 use Rattle.hr_edges.proofs.Writings.{Takes-append, Takes-nothing, TakesAtLeast-append}
 use Rattle.dir_files.specs.Images.{Image, KeepsImages, read_of}
@@ -25,7 +24,7 @@ use Rattle.restart_load.proofs.FolderLaws.{keeps_after}
 use Rattle.restart_load.proofs.ResumedLaws.{images_kept}
 use Rattle.store_drill.specs.Dumping.{DumpAt, Dumped, Wrote, flat, lines_of_entries}
 use Rattle.store_drill.specs.Sessions.{Outside}
-use Rattle.store_drill.specs.Writers.{AllBegin, IsApart, files_at, files_in}
+use Rattle.store_drill.specs.Writers.{AllBegin, files_at, files_in}
 
 -- ---- pieces
 

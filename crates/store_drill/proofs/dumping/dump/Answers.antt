@@ -1,4 +1,4 @@
-use Rattle.std.proofs.Common.{◌≡◌, ℕ, inl, refl, sym, subst}
+use Rattle.std.proofs.Common.{ℕ, inl, refl, sym, subst}
 use Rattle.dir_files.specs.Images.{read_of}
 use Rattle.crash_law.specs.Restarts.{IsRestartable}
 use Rattle.restart_load.specs.Writers.{standings}

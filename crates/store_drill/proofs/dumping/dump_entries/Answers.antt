@@ -1,4 +1,4 @@
-use Rattle.std.proofs.Common.{◌≡◌, ◌≤◌, ℕ, List, [], ◌∷◌, length, take, Some, slice_get, slice_index_or, refl, sym, subst, ap, ◌∙◌, inl, rules, arith}
+use Rattle.std.proofs.Common.{List, subst, arith}
 use Rattle.std.proofs.lemmas.List.{take_all}
 use Rattle.restart_load.specs.declared.ended.Ended.TheVariants.{Whole}
 use Rattle.store_drill.specs.Dumping.{DumpAt, lines_of_entries}

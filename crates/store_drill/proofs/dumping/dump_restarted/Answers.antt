@@ -8,7 +8,7 @@ use Rattle.partition_writer.specs.WriterViews.{standing}
 use Rattle.script_text.specs.Dumps.{dump_lines}
 use Rattle.restart_load.specs.Writers.{standings}
 use Rattle.store_drill.specs.Dumping.{DumpAt}
-use Rattle.store_drill.specs.Writers.{EachFits, HasMaps, HasNumber}
+use Rattle.store_drill.specs.Writers.{EachFits, HasMaps}
 use Rattle.store_drill.proofs.DumpLaws.{closed_keeps}
 use Rattle.store_drill.proofs.FolderLaws.{all_apart, all_own, begun_stand, begun_start, have_maps, started}
 use Rattle.store_drill.proofs.dumping.dump_restarted.Goals as goal

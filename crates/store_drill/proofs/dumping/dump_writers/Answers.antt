@@ -1,4 +1,4 @@
-use Rattle.std.proofs.Common.{◌≡◌, ◌≤◌, ℕ, List, [], ◌∷◌, length, take, Some, slice_get, slice_index_or, refl, sym, subst, ap, ◌∙◌, inl, rules, arith}
+use Rattle.std.proofs.Common.{◌≡◌, ℕ, length, Some, slice_get, sym, subst, ap, ◌∙◌, arith}
 use Rattle.std.specs.Option.{option_map}
 use Rattle.std.proofs.lemmas.Option.{slice_get-get_or, slice_get-map}
 use Rattle.hr_base.specs.Entries.{Entries}
@@ -8,7 +8,6 @@ use Rattle.script_text.specs.Dumps.{dump_lines, lines_of_maps}
 use Rattle.restart_load.specs.Writers.{standings}
 use Rattle.restart_load.specs.declared.ended.Ended.TheVariants.{Whole}
 use Rattle.store_drill.specs.Dumping.{DumpAt}
-use Rattle.store_drill.specs.Writers.{EachFits, HasMaps}
 use Rattle.store_drill.proofs.DumpLaws.{dump_none, partition_stops, partition_then}
 use Rattle.store_drill.proofs.dumping.dump_writers.Goals as goal
 
