@@ -1,5 +1,5 @@
 -- What a status says of the outcome that it tells.
-use Rattle.std.proofs.Common.{◌≡◌, ◌⊎◌, ℕ, ◌≤◌, List, [], Option, refl, arith, inl, inr, subst, ◌∙◌}
+use Rattle.std.proofs.Common.{◌≡◌, ◌⊎◌, ℕ, ◌≤◌, List, [], Option, refl, arith, inl, inr, subst, sym, ◌∙◌}
 use Rattle.hr_edges.specs.Edges.{Takes}
 use Rattle.restart_load.specs.declared.ended.Ended.TheVariants.{Whole, Sink, Disk, Memory, Load, Spent}
 use Rattle.restart_load.specs.declared.refusal.RestartRefusal.{RestartRefusal}
@@ -72,26 +72,28 @@ load_of_status (Ended (Load refusal)) e = (refusal, refl)
 load_of_status (Ended other) e = cc
 load_of_status other e = cc
 
--- status 6 tells what is wrong with a folder, and that this was taken
+-- a status that neither want of memory nor a failing sink gives tells what it stands for, and that this was taken
+told_as : {A : Type 0} (f : A → Outcome) (n : ℕ) → (n ≡ 4 → ⊥) → (n ≡ 7 → ⊥) → ((outcome : Outcome) → status_of outcome ≡ n → (x : A) × (outcome ≡ f x))
+    → (outcome : Outcome) (status : ℕ) (mid now : Option (List ℕ)) → Tells outcome status mid now → status ≡ n → (x : A) × (outcome ≡ f x) × Takes mid now (last_line (f x))
+told_as f n four seven of outcome status mid now t e =
+    let own = told_of outcome status mid now t (λ h. four (sym e ∙ h)) (λ h. seven (sym e ∙ h)) in
+    let found = of outcome (own.0 ∙ e) in
+    (found.0, found.1, same_line outcome (f found.0) mid now found.1 own.1)
+
+-- status 6 tells what is wrong with a folder
 pub load_told : (outcome : Outcome) (status : ℕ) (mid now : Option (List ℕ)) → Tells outcome status mid now → status ≡ 6
     → (refusal : RestartRefusal) × (outcome ≡ Ended (Load refusal)) × Takes mid now (last_line (Ended (Load refusal)))
-load_told outcome status mid now t e =
-    let own = told_of outcome status mid now t (λ f. cc) (λ f. cc) in
-    let wrong = load_of_status outcome (own.0 ∙ e) in
-    (wrong.0, wrong.1, same_line outcome (Ended (Load wrong.0)) mid now wrong.1 own.1)
+load_told = told_as (λ refusal. Ended (Load refusal)) 6 (λ h. cc) (λ h. cc) load_of_status
 
 spent_of_status : (outcome : Outcome) → status_of outcome ≡ 8 → (next : ℕ) × (outcome ≡ Ended (Spent next))
 spent_of_status (Ended (Spent next)) e = (next, refl)
 spent_of_status (Ended other) e = cc
 spent_of_status other e = cc
 
--- status 8 tells a number that none can have, and that it was taken
+-- status 8 tells a number that none can have
 pub spent_told : (outcome : Outcome) (status : ℕ) (mid now : Option (List ℕ)) → Tells outcome status mid now → status ≡ 8
     → (next : ℕ) × (outcome ≡ Ended (Spent next)) × Takes mid now (last_line (Ended (Spent next)))
-spent_told outcome status mid now t e =
-    let own = told_of outcome status mid now t (λ f. cc) (λ f. cc) in
-    let spent = spent_of_status outcome (own.0 ∙ e) in
-    (spent.0, spent.1, same_line outcome (Ended (Spent spent.0)) mid now spent.1 own.1)
+spent_told = told_as (λ next. Ended (Spent next)) 8 (λ h. cc) (λ h. cc) spent_of_status
 
 -- ---- several statuses
 
@@ -161,12 +163,12 @@ number_of_status (Ended Memory) zero one two six = inr (inr (inr (inl refl)))
 number_of_status (Ended (Spent next)) zero one two six = inr (inr (inr (inr refl)))
 
 -- a script with a line that needs a number which none can have
-pub wanting_told : (outcome : Outcome) (status : ℕ) (mid now : Option (List ℕ)) → Tells outcome status mid now
+pub spends_told : (outcome : Outcome) (status : ℕ) (mid now : Option (List ℕ)) → Tells outcome status mid now
     → (status ≡ 0 → ⊥) → (status ≡ 1 → ⊥) → (status ≡ 2 → ⊥) → (status ≡ 6 → ⊥) → CanRefuseNumber status
-wanting_told outcome _ mid now (told t) zero one two six = number_of_status outcome zero one two six
-wanting_told outcome _ mid now (no_memory t) zero one two six = inr (inr (inr (inl refl)))
-wanting_told outcome _ mid now (not_taken t) zero one two six = inr (inl refl)
-wanting_told outcome _ mid now (nothing_taken t) zero one two six = inr (inl refl)
+spends_told outcome _ mid now (told t) zero one two six = number_of_status outcome zero one two six
+spends_told outcome _ mid now (no_memory t) zero one two six = inr (inr (inr (inl refl)))
+spends_told outcome _ mid now (not_taken t) zero one two six = inr (inl refl)
+spends_told outcome _ mid now (nothing_taken t) zero one two six = inr (inl refl)
 
 -- a script that has to be refused
 pub unfit_of : (outcome : Outcome) (status : ℕ) (mid now : Option (List ℕ)) → Tells outcome status mid now → CanRefuse (status_of outcome) → CanRefuse status

@@ -14,20 +14,20 @@ use Rattle.hotrestart_cli.specs.Scripts.{IsFit}
 use Rattle.hotrestart_cli.specs.Served.{WasPlayed, WillSpend}
 
 -- what is a script is fit to be played
-pub wanting_fit : (limits : Limits) (image : Image) (left : Option (List ℕ)) → WillSpend limits image left → IsFit limits.partitions left
-wanting_fit limits image None will = absurd will
-wanting_fit limits image (Some bytes) will = (will.lines, will.script)
+pub spends_fit : (limits : Limits) (image : Image) (left : Option (List ℕ)) → WillSpend limits image left → IsFit limits.partitions left
+spends_fit limits image None will = absurd will
+spends_fit limits image (Some bytes) will = (will.lines, will.script)
 
 -- its folder restarts
-pub wanting_restarts : (limits : Limits) (image : Image) (left : Option (List ℕ)) → WillSpend limits image left → IsRestartable image limits.partitions
-wanting_restarts limits image None will = absurd will
-wanting_restarts limits image (Some bytes) will = will.started.maps.restartable
+pub spends_restarts : (limits : Limits) (image : Image) (left : Option (List ℕ)) → WillSpend limits image left → IsRestartable image limits.partitions
+spends_restarts limits image None will = absurd will
+spends_restarts limits image (Some bytes) will = will.started.maps.restartable
 
 -- and it is not done
-pub wanting_undone : (tells : Bool) (limits : Limits) (image : Image) (left before now : Option (List ℕ)) → tells ≡ true → IsLimits limits → WillSpend limits image left
+pub spends_undone : (tells : Bool) (limits : Limits) (image : Image) (left before now : Option (List ℕ)) → tells ≡ true → IsLimits limits → WillSpend limits image left
     → WasPlayed tells limits image left before now → ⊥
-wanting_undone tells limits image None before now y valid will played = will
-wanting_undone tells limits image (Some bytes) before now y valid will played =
+spends_undone tells limits image None before now y valid will played = will
+spends_undone tells limits image (Some bytes) before now y valid will played =
     let few : limits.partitions ≤ 2 ^ 64 = omega (arith, valid.partitions.few) in
     let same : will.lines ≡ played.lines = one_reading Play limits.partitions bytes will.lines played.lines few will.script.1 played.script.1 in
     played.unspent will.count will.next

@@ -143,7 +143,7 @@ pub fn serve<F: Folder, S: Source, K: Sink>(
     ensures spent { F.tells ≡ true → result ≡ 8
         → Means (texts_of words.now) (λ command. WasSpentBy command (read_of (F.port folder.old)) (S.left input.old) (K.taken out.old) (K.taken out.new)) }
     // A script with such a line is never played to its end.
-    ensures wanting { F.tells ≡ true → (limits : Limits) → IsCommand (texts_of words.now) (Command.Play limits) → WillSpend limits (read_of (F.port folder.old)) (S.left input.old)
+    ensures spends { F.tells ≡ true → (limits : Limits) → IsCommand (texts_of words.now) (Command.Play limits) → WillSpend limits (read_of (F.port folder.old)) (S.left input.old)
         → CanRefuseNumber result }
 {
     let outcome = run(alloc, words, folder, input, out);

@@ -1,12 +1,15 @@
 //! The program over memory: what it prints, and what stands in the folder then.
 
 mod disk;
+mod edges;
 mod faults;
 mod files;
+mod found;
 mod long;
 mod maps;
 mod real;
 mod restarts;
+mod rows;
 mod runs;
 mod scripts;
 mod stops;

@@ -62,7 +62,7 @@ module _ (port : Port) (names : List ChunkName) (listing : IsListing port names)
     first = λ other stray. All-contains (λ (o : ChunkName). partitions ≤ o.partition.0 → IsUpTo name o) names other first ((listing.listed other).1 (some_held (port.held other) stray.there)) stray.partition;
   }
 
-one_image : (a b : Image) → ((name : ChunkName) → a name ≡ b name) → a ≡ b
+pub one_image : (a b : Image) → ((name : ChunkName) → a name ≡ b name) → a ≡ b
 one_image a b same = λ i name. same name i
 
 -- the image that is read before a call and after it, where the bytes stay
@@ -72,8 +72,21 @@ refused_same a b partitions refusal same is = subst (λ (image : Image). IsRefus
 pub restartable_same : (a b : Image) (partitions : ℕ) → ((name : ChunkName) → a name ≡ b name) → IsRestartable b partitions → IsRestartable a partitions
 restartable_same a b partitions same is = subst (λ (image : Image). IsRestartable image partitions) (sym (one_image a b same)) is
 
-pub resumed_same : (tells : Bool) (limits : Limits) (a b : Image) (writers : List Standing) → ((name : ChunkName) → a name ≡ b name) → AreResumed tells limits b writers → AreResumed tells limits a writers
-resumed_same tells limits a b writers same is = subst (λ (image : Image). AreResumed tells limits image writers) (sym (one_image a b same)) is
+pub resumed_same : (tells : Bool) (a b : Image) (writers : List Standing) → (tells ≡ true → (name : ChunkName) → a name ≡ b name) → AreResumed tells b writers → AreResumed tells a writers
+resumed_same tells a b writers same resumed p s is =
+    let one = resumed p s is in
+    record {
+      number = one.number;
+      running = one.running;
+      whole = one.whole;
+      records = one.records;
+      faults = one.faults;
+      lanes = one.lanes;
+      files = one.files;
+      next = λ y. subst (λ (image : Image). IsNext (Fact image p) s.next) (sym (one_image a b (same y))) (one.next y);
+      next_chunk = λ y. subst (λ (image : Image). IsNextChunk image p s.next_chunk) (sym (one_image a b (same y))) (one.next_chunk y);
+      account = λ y. subst (λ (image : Image). Stands s (beginning_of image s) (fresh_account s.maps)) (sym (one_image a b (same y))) (one.account y);
+    }
 
 -- ---- numbers
 
@@ -161,14 +174,13 @@ module _ (tells : Bool) (limits : Limits) (port : Port) (names : List ChunkName)
 
   pub all_resumed : length writers ≡ limits.partitions
       → (tells ≡ true → (p : ℕ) (s : Standing) → slice_get writers p ≡ Some s → p < limits.partitions → (IsNext (Fact (read_of port) p) s.next) × (IsNextChunk (read_of port) p s.next_chunk) × Stands s (beginning_of (read_of port) s) (fresh_account s.maps))
-      → AreResumed tells limits (read_of port) writers
+      → AreResumed tells (read_of port) writers
   all_resumed count told p s is =
       let found = opened p s is in
       let one : IsOpened tells limits p found.0 found.1 s = found.4 in
       let below : p < limits.partitions = omega (arith, count, slice_get_within writers p s is) in
       record {
         number = one.number;
-        limited = one.limited;
         running = one.running;
         whole = one.whole;
         records = one.records;
@@ -184,7 +196,7 @@ module _ (tells : Bool) (limits : Limits) (port : Port) (names : List ChunkName)
 pub resumed_from : (tells : Bool) (limits : Limits) (start port : Port) (names : List ChunkName) (files : List FileBytes) (parts : List Replayed) (chunks : List ℕ) (writers : List Standing)
     → AreOpened tells limits parts chunks writers → length writers ≡ limits.partitions → (tells ≡ true → (name : ChunkName) → read_of port name ≡ read_of start name)
     → (tells ≡ true → (p : ℕ) (s : Standing) → slice_get writers p ≡ Some s → p < limits.partitions → (IsNext (Fact (read_of port) p) s.next) × (IsNextChunk (read_of port) p s.next_chunk) × Stands s (beginning_of (read_of port) s) (fresh_account s.maps))
-    → AreResumed tells limits (read_of start) writers
+    → AreResumed tells (read_of start) writers
 resumed_from tells limits start port names files parts chunks writers opened count same facts =
     all_resumed tells limits start names files parts chunks writers opened count
     (λ told p s is below.

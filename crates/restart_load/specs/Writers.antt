@@ -48,17 +48,19 @@ pub record IsNextChunk (image : Image) (p next : ℕ) : Type 0 where
 abbrev pub beginning_of : Image → Standing → Beginning
 beginning_of image s = record { found = image; maps = s.maps; first = s.next; first_chunk = s.next_chunk }
 
+-- it goes by these limits
+abbrev pub HasLimits : Limits → Standing → Type 0
+HasLimits limits s = s.limits ≡ limits
+
 -- A writer of the partition that goes on from these files, has done nothing yet and has no chunk in hand. Where the
--- folder tells its content, it has no file of its own, its maps are those that the files restart to, all of them durable, and its numbers go on
--- from theirs.
-pub record IsResumed (tells : Bool) (limits : Limits) (image : Image) (p : ℕ) (s : Standing) : Type 0 where
+-- folder tells its content, it has no file of its own, its maps are those that the files restart to, all of them
+-- durable, and its numbers go on from theirs.
+pub record IsResumed (tells : Bool) (image : Image) (p : ℕ) (s : Standing) : Type 0 where
   pub number : s.partition.0 ≡ p
-  pub limited : s.limits ≡ limits
   pub running : s.halted ≡ None
   pub whole : s.lost ≡ false
   pub records : s.records ≡ []
   pub faults : s.faults ≡ 0
-  -- no chunk is in hand
   pub lanes : (class : Class) → lane_of s.stock class ≡ empty_lane class
   pub files : tells ≡ true → (name : ChunkName) → files_of s.stock name ≡ None
   pub next : tells ≡ true → IsNext (Fact image p) s.next
@@ -66,5 +68,5 @@ pub record IsResumed (tells : Bool) (limits : Limits) (image : Image) (p : ℕ) 
   pub account : tells ≡ true → Stands s (beginning_of image s) (fresh_account s.maps)
 
 -- and so is each of them
-abbrev pub AreResumed : Bool → Limits → Image → List Standing → Type 0
-AreResumed tells limits image writers = (p : ℕ) (s : Standing) → slice_get writers p ≡ Some s → IsResumed tells limits image p s
+abbrev pub AreResumed : Bool → Image → List Standing → Type 0
+AreResumed tells image writers = (p : ℕ) (s : Standing) → slice_get writers p ≡ Some s → IsResumed tells image p s

@@ -14,7 +14,7 @@ ghost use Rattle.restart_load.specs.Contents.{AreFilesOf, InNameOrder};
 ghost use Rattle.restart_load.specs.Reading.{IsFirstLarge, IsFolderRefusal};
 ghost use Rattle.restart_load.specs.Refusals.{IsPrintable, IsRefusedFor};
 ghost use Rattle.restart_load.specs.Taking.{AllDurableWith, AllNamed, HasTaken, bytes_of};
-ghost use Rattle.restart_load.specs.Writers.{AreResumed, standings};
+ghost use Rattle.restart_load.specs.Writers.{AreResumed, EachIs, HasLimits, standings};
 
 use crate::contents::Contents;
 use crate::listing::{first_stray, list_names};
@@ -98,7 +98,8 @@ pub fn restart<F: Folder>(
     requires limits { IsLimits limits.now }
     requires calm { F.tells ≡ true → IsCalm (F.port folder.old) }
     ensures each { IfOk result (λ writers. length writers.items ≡ limits.now.partitions) }
-    ensures resumed { IfOk result (λ writers. AreResumed F.tells limits.now (read_of (F.port folder.old)) (standings writers.items)) }
+    ensures limits { IfOk result (λ writers. EachIs (HasLimits limits.now) (standings writers.items)) }
+    ensures resumed { IfOk result (λ writers. AreResumed F.tells (read_of (F.port folder.old)) (standings writers.items)) }
     // Only a folder that restarts is restarted, and what is wrong with another one is told.
     ensures restartable { F.tells ≡ true → OnOk result (IsRestartable (read_of (F.port folder.old)) limits.now.partitions) }
     ensures refused { F.tells ≡ true → IfErr result (IsRefusedFor (read_of (F.port folder.old)) limits.now.partitions) }

@@ -21,10 +21,11 @@ use Rattle.partition_writer.specs.Standing.{Standing}
 use Rattle.restart_load.specs.declared.ended.Ended.{Ended}
 use Rattle.restart_load.specs.declared.ended.Ended.TheVariants.{Whole, Sink, Disk, Memory, Load, Spent}
 use Rattle.restart_load.proofs.FolderLaws.{keeps_after}
-use Rattle.restart_load.proofs.ResumedLaws.{images_kept}
+use Rattle.restart_load.proofs.ResumedLaws.{images_kept, one_image}
 use Rattle.store_drill.specs.Dumping.{DumpAt, Dumped, Wrote, flat, lines_of_entries}
 use Rattle.store_drill.specs.Sessions.{Outside}
-use Rattle.store_drill.specs.Writers.{AllBegin, files_at, files_in}
+use Rattle.restart_load.specs.Writers.{AreResumed}
+use Rattle.store_drill.specs.Writers.{files_at, files_in}
 
 -- ---- pieces
 
@@ -150,6 +151,11 @@ partition_stops k n maps ended a b c less other first second =
     subst (λ (lines : List (List ℕ)). DumpAt ended lines a c) (sym rest.1)
     (dump_stop ended (dump_lines (suc k) maps) rest.0 a c other (dump_then ended (dump_lines k maps) (lines_of_maps k (maps k)) a b c first second))
 
+-- what was written of a writer is that of its partition and its maps
+pub written_of : (ended : Ended) (p q : ℕ) (m n : Entries) (a b : Option (List ℕ)) → p ≡ q → m ≡ n → DumpAt ended (lines_of_maps p m) a b → DumpAt ended (lines_of_maps q n) a b
+written_of ended p q m n a b here same wrote =
+    subst (λ (x : ℕ). DumpAt ended (lines_of_maps x n) a b) here (subst (λ (maps : Entries). DumpAt ended (lines_of_maps p maps) a b) same wrote)
+
 -- ---- the folder keeps its files
 
 none_at : (writers : List Standing) (o : Option Standing) (name : ChunkName) → ((s : Standing) → o ≡ Some s → files_in (Some s) name ≡ None) → files_in o name ≡ None
@@ -161,7 +167,7 @@ either_same None other none = none
 either_same (Some file) other none = refl
 
 -- where no writer has a file
-pub closed_keeps : (tells : Bool) (image : Image) (writers : List Standing) (old new : Port) → AllBegin tells image writers → tells ≡ true → IsAtRest old → IsGivenBack new
+pub closed_keeps : (tells : Bool) (image : Image) (writers : List Standing) (old new : Port) → AreResumed tells image writers → tells ≡ true → IsAtRest old → IsGivenBack new
     → ((name : ChunkName) → new.held name ≡ either_file (old.held name) (files_at writers name)) → KeepsImages old new
 closed_keeps tells image writers old new begun told rest given_back held =
     images_kept old new rest.given_back (record {
@@ -170,9 +176,6 @@ closed_keeps tells image writers old new begun told rest given_back held =
     })
 
 -- ---- a dump
-
-one_image : (a b : Image) → ((name : ChunkName) → a name ≡ b name) → a ≡ b
-one_image a b same = λ i name. same name i
 
 -- over a folder that was restarted before
 pub wrote_after : (tells : Bool) (partitions : ℕ) (old mid : Port) (faults more : ℕ) (taken : Option (List ℕ)) (new : Outside) (ended : Ended)

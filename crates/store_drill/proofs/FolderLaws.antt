@@ -25,7 +25,8 @@ use Rattle.writer_files.specs.Stocks.{files_of}
 use Rattle.partition_writer.specs.Standing.{Beginning, Standing, Stands, all_files, start_of, written}
 use Rattle.restart_load.specs.Ends.{ended_of_restart}
 use Rattle.restart_load.specs.Refusals.{IsPrintable, IsRefusedFor}
-use Rattle.restart_load.specs.Writers.{AreResumed, EachIs, IsNextChunk, beginning_of}
+use Rattle.restart_load.proofs.ResumedLaws.{one_image}
+use Rattle.restart_load.specs.Writers.{AreResumed, EachIs, HasLimits, IsNextChunk}
 use Rattle.restart_load.specs.declared.refusal.RestartRefusal.{RestartRefusal}
 use Rattle.restart_load.specs.declared.refusal.RestartRefusal.TheVariants as refusal
 use Rattle.restart_load.specs.declared.ended.Ended.{Ended}
@@ -35,13 +36,9 @@ use Rattle.store_drill.specs.Accounts.{accounts_at}
 use Rattle.store_drill.specs.Numbers.{Start, numbers_at}
 use Rattle.store_drill.specs.Playing.{Played}
 use Rattle.store_drill.specs.Sessions.{IsRefusal, IsStart, NotBegun, Outside, Ran, Session}
-use Rattle.store_drill.specs.Writers.{AllBegin, EachFits, HasLimits, HasMaps, HasNumber, HaveStart, IsApart, IsLimited, IsWhole, OwnsFiles, StandsAt, faults_of, files_at, files_in, numbers_of}
-use Rattle.store_drill.proofs.StepLaws.{same_numbers}
+use Rattle.store_drill.specs.Writers.{EachFits, HasMaps, HasNumber, HaveStart, IsApart, IsLimited, IsWhole, OwnsFiles, StandsAt, faults_of, files_at, files_in, numbers_of}
+use Rattle.store_drill.proofs.StepLaws.{none_unless, same_numbers}
 use Rattle.store_drill.proofs.WriterListLaws.{get_at_end}
-
-none_unless : {A : Type 0} (o : Option A) → ((x : A) → o ≡ Some x → ⊥) → o ≡ None
-none_unless None never = refl
-none_unless (Some x) never = absurd (never x refl)
 
 no_some : {A : Type 0} (o : Option A) (x : A) → o ≡ None → o ≡ Some x → ⊥
 no_some o x none some = cc
@@ -193,7 +190,7 @@ pub have_maps : (writers : List Standing) → EachFits HasMaps writers (started 
 have_maps writers p s is = sym (ap maps_in is)
 
 -- no chunk is in hand yet
-pub have_started : (tells : Bool) (image : Image) (limits : Limits) (writers : List Standing) → AllBegin tells image writers → EachIs (HasLimits limits) writers → HaveStart limits writers (started writers)
+pub have_started : (tells : Bool) (image : Image) (limits : Limits) (writers : List Standing) → AreResumed tells image writers → EachIs (HasLimits limits) writers → HaveStart limits writers (started writers)
 have_started tells image limits writers begun limited = record {
   limited = limited;
   maps = have_maps writers;
@@ -205,7 +202,7 @@ have_started tells image limits writers begun limited = record {
 abbrev begins_in : Image → Option Standing → Beginning
 begins_in image o = record { found = image; maps = maps_in o; first = next_in o; first_chunk = next_chunk_in o }
 
-module _ (tells : Bool) (image : Image) (writers : List Standing) (begun : AllBegin tells image writers) (told : tells ≡ true) where
+module _ (tells : Bool) (image : Image) (writers : List Standing) (begun : AreResumed tells image writers) (told : tells ≡ true) where
   pub begun_stand : EachFits (StandsAt (begins_of image (started writers))) writers (λ p. fresh_account ((started writers).maps p))
   begun_stand p s is = subst (λ (o : Option Standing). Stands s (begins_in image o) (fresh_account (maps_in o))) (sym is) ((begun p s is).account told)
 
@@ -330,7 +327,7 @@ module _ (old : Port) (start : Start) (writers : List Standing) (accounts : ℕ 
 
 -- ---- a session
 
-module _ (tells : Bool) (lines : List Line) (old : Port) (begun writers : List Standing) (before now : Option (List ℕ)) (ended : Ended) (all : AllBegin tells (read_of old) begun)
+module _ (tells : Bool) (lines : List Line) (old : Port) (begun writers : List Standing) (before now : Option (List ℕ)) (ended : Ended) (all : AreResumed tells (read_of old) begun)
     (played : Played tells lines begun writers before now ended) where
   -- how the writers stand once the lines were played
   pub played_stand : tells ≡ true → EachFits (StandsAt (begins_of (read_of old) (started begun))) writers (accounts_at ended lines played.count (λ p. fresh_account ((started begun).maps p)))
@@ -340,7 +337,7 @@ module _ (tells : Bool) (lines : List Line) (old : Port) (begun writers : List S
   played_numbers = played.numbers (λ p s is. (all p s is).number)
 
 -- the writers were closed over the folder that was restarted
-pub session_ran : (tells : Bool) (limits : Limits) (lines : List Line) (begun writers : List Standing) (old new : Outside) (ended : Ended) (all : AllBegin tells (read_of old.port) begun)
+pub session_ran : (tells : Bool) (limits : Limits) (lines : List Line) (begun writers : List Standing) (old new : Outside) (ended : Ended) (all : AreResumed tells (read_of old.port) begun)
     → EachIs (HasLimits limits) begun → length begun ≡ limits.partitions
     → (tells ≡ true → IsRestartable (read_of old.port) limits.partitions) → (tells ≡ true → IsAtRest old.port) → Played tells lines begun writers old.taken new.taken ended → length writers ≡ length begun
     → (tells ≡ true → IsGivenBack new.port) → (tells ≡ true → (name : ChunkName) → new.port.held name ≡ either_file (old.port.held name) (files_at writers name))
@@ -371,34 +368,7 @@ session_ran tells limits lines begun writers old new ended all limited parts res
 
 -- ---- a folder that was restarted
 
-one_image : (a b : Image) → ((name : ChunkName) → a name ≡ b name) → a ≡ b
-one_image a b same = λ i name. same name i
-
--- the writers of a restart begin over what is read of the folder since
-pub begun_resumed : (tells : Bool) (limits : Limits) (old mid : Port) (writers : List Standing) → (tells ≡ true → KeepsImages old mid) → AreResumed tells limits (read_of old) writers
-    → AllBegin tells (read_of mid) writers
-begun_resumed tells limits old mid writers keeps resumed p s is =
-    let one = resumed p s is in
-    record {
-      number = one.number;
-      runs = record { running = one.running; whole = one.whole };
-      faults = one.faults;
-      lanes = one.lanes;
-      files = one.files;
-      next = λ y. subst (λ (image : Image). IsNext (Fact image p) s.next) (sym (one_image (read_of mid) (read_of old) (keeps y).read)) (one.next y);
-      next_chunk = λ y. subst (λ (image : Image). IsNextChunk image p s.next_chunk) (sym (one_image (read_of mid) (read_of old) (keeps y).read)) (one.next_chunk y);
-      account = λ y. subst (λ (image : Image). Stands s (beginning_of image s) (fresh_account s.maps)) (sym (one_image (read_of mid) (read_of old) (keeps y).read)) (one.account y);
-    }
-
--- with the limits that were asked for
-pub begun_within : (tells : Bool) (limits : Limits) (image : Image) (writers : List Standing) → AreResumed tells limits image writers → EachIs (HasLimits limits) writers
-begun_within tells limits image writers resumed p s is = (resumed p s is).limited
-
-pub restartable_since : (old mid : Port) (partitions : ℕ) → KeepsImages old mid → IsRestartable (read_of old) partitions → IsRestartable (read_of mid) partitions
-restartable_since old mid partitions keeps restartable =
-    subst (λ (image : Image). IsRestartable image partitions) (sym (one_image (read_of mid) (read_of old) keeps.read)) restartable
-
--- and a session over it began with what the folder restarted to
+-- a session over it began with what the folder restarted to
 pub ran_after : (tells : Bool) (limits : Limits) (lines : List Line) (old mid : Port) (faults more : ℕ) (taken : Option (List ℕ)) (new : Outside) (ended : Ended)
     → (tells ≡ true → KeepsImages old mid) → Session tells limits lines (record { port = mid; faults = more; taken = taken }) new ended
     → Ran tells limits lines (record { port = old; faults = faults; taken = taken }) new ended

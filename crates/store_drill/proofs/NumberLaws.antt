@@ -9,7 +9,7 @@ use Rattle.hr_base.specs.Entries.{Entries}
 use Rattle.script_text.specs.declared.line.Line.{Line}
 use Rattle.script_text.specs.Replies.{maps_after_lines, maps_after_one}
 use Rattle.partition_writer.specs.Storing.{number_after}
-use Rattle.store_drill.specs.Numbers.{IsEnd, Numbers, Piece, has_place, numbers_after, numbers_after_lines, numbers_after_one, wanting}
+use Rattle.store_drill.specs.Numbers.{IsEnd, Numbers, Piece, has_place, numbers_after, numbers_after_lines, numbers_after_one, spent_for}
 use Rattle.store_drill.specs.Writers.{AreLimited}
 
 -- one more line
@@ -18,7 +18,7 @@ pub numbers_after_lines-push : (limits : Limits) (lines : List Line) (line : Lin
 numbers_after_lines-push limits [] line m n = refl
 numbers_after_lines-push limits (x ∷ xs) line m n = numbers_after_lines-push limits xs line (maps_after_one x m) (numbers_after_one limits x m n)
 
--- ---- where none is wanting, the next ones are within their limits
+-- ---- where none is spent, the next ones are within their limits
 
 unspent_where : (full room last : Bool) (n m : ℕ) → (if full then Some n else if room then None else if last then Some m else None) ≡ None → (full ≡ false) × ((room ≡ true) ⊎ (last ≡ false))
 unspent_where true room last n m is = cc
@@ -31,7 +31,7 @@ number_within true n limited h = limited
 number_within false n limited (inl room) = cc
 number_within false n limited (inr less) = omega (arith, less)
 
-pub within_limits : (limits : Limits) (n : Numbers) (piece : Option Piece) → wanting limits n piece ≡ None → AreLimited n → AreLimited (numbers_after limits n piece)
+pub within_limits : (limits : Limits) (n : Numbers) (piece : Option Piece) → spent_for limits n piece ≡ None → AreLimited n → AreLimited (numbers_after limits n piece)
 within_limits limits n None none limited = limited
 within_limits limits n (Some piece) none limited =
     let where' = unspent_where (nat_le SEQ_END n.next) (has_place limits n piece) (nat_le CHUNK_NO_END n.next_chunk) n.next n.next_chunk none in
@@ -42,7 +42,7 @@ within_limits limits n (Some piece) none limited =
       next_chunk = number_within (has_place limits n piece) n.next_chunk limited.next_chunk room;
     }
 
--- ---- one that is wanting is at the end of its range
+-- ---- one that is spent is at the end of its range
 
 spent_where : (full room last : Bool) (next n m : ℕ) → (if full then Some n else if room then None else if last then Some m else None) ≡ Some next
     → ((next ≡ n) × (full ≡ true)) ⊎ ((next ≡ m) × (last ≡ true))
@@ -51,9 +51,9 @@ spent_where false true last next n m is = cc
 spent_where false false true next n m is = inr (same_Some next m (sym is), refl)
 spent_where false false false next n m is = cc
 
-pub wanting_end : (limits : Limits) (n : Numbers) (piece : Option Piece) (next : ℕ) → AreLimited n → wanting limits n piece ≡ Some next → IsEnd next
-wanting_end limits n None next limited is = cc
-wanting_end limits n (Some piece) next limited is =
+pub spent_end : (limits : Limits) (n : Numbers) (piece : Option Piece) (next : ℕ) → AreLimited n → spent_for limits n piece ≡ Some next → IsEnd next
+spent_end limits n None next limited is = cc
+spent_end limits n (Some piece) next limited is =
     elim (spent_where (nat_le SEQ_END n.next) (has_place limits n piece) (nat_le CHUNK_NO_END n.next_chunk) next n.next n.next_chunk is) [
       | inl number ↦ inl (omega (arith, number.0, leb-true SEQ_END n.next number.1, limited.next))
       | inr chunk ↦ inr (omega (arith, chunk.0, leb-true CHUNK_NO_END n.next_chunk chunk.1, limited.next_chunk))

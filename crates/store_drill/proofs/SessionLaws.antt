@@ -14,16 +14,17 @@ use Rattle.script_text.specs.declared.line.Line.{Line}
 use Rattle.script_text.specs.Lines.{partition_of}
 use Rattle.script_text.specs.Replies.{changed_at, replies, text_after, maps_after_line, maps_after_one, maps_after_lines}
 use Rattle.partition_writer.specs.Standing.{Beginning, Standing, Stands}
-use Rattle.restart_load.specs.Writers.{EachIs}
+use Rattle.restart_load.specs.Writers.{EachIs, HasLimits}
+use Rattle.restart_load.specs.declared.ended.Ended.{Ended}
 use Rattle.restart_load.specs.declared.ended.Ended.TheVariants.{Whole, Sink, Disk, Memory}
 use Rattle.restart_load.specs.declared.ended.Ended.TheVariants as ends
 use Rattle.store_drill.specs.declared.step.Step.{Step}
 use Rattle.store_drill.specs.declared.step.Step.TheVariants.{Spent}
 use Rattle.store_drill.specs.Accounts.{account_after_line, accounts_after_lines, account_after_refused, accounts_after_refused}
-use Rattle.store_drill.specs.Numbers.{IsEnd, IsSpentAt, Numbers, Start, numbers_after, numbers_after_lines, numbers_after_one, numbers_at, wanting, written_for}
-use Rattle.store_drill.specs.Writers.{AreLimited, EachFits, HasLimits, HasMaps, HasNumber, HasNumbers, HaveStart, IsLimited, IsWhole, Runs, StandsAt, faults_of, numbers_of}
+use Rattle.store_drill.specs.Numbers.{IsEnd, IsSpentAt, Numbers, SpendsAt, Start, numbers_after, numbers_after_lines, numbers_after_one, numbers_at, spent_for, written_for}
+use Rattle.store_drill.specs.Writers.{AreLimited, EachFits, HasMaps, HasNumber, HasNumbers, HaveStart, IsLimited, IsWhole, Runs, StandsAt, faults_of, numbers_of}
 use Rattle.store_drill.specs.Playing.{Counts, GoesOn, PlaysAmong, Played, needed}
-use Rattle.store_drill.proofs.NumberLaws.{numbers_after_lines-push, wanting_end, within_limits}
+use Rattle.store_drill.proofs.NumberLaws.{numbers_after_lines-push, spent_end, within_limits}
 use Rattle.store_drill.proofs.StepLaws.{none_unless}
 use Rattle.store_drill.proofs.WriterListLaws.{each_changed, each_is_changed, each_kept, faults_at}
 
@@ -137,8 +138,8 @@ module _ (tells : Bool) (step : Step) (line : Line) (old new : List Standing) (t
         ∙ ap (λ (k : Numbers). f limits k plays.before.maps) (numbers (partition_of line) plays.before at)
         ∙ ap (λ (e : Entries). f limits (n (partition_of line)) e) (maps (partition_of line) plays.before at)
 
-    pub needed_with : needed line plays.before ≡ wanting limits (n (partition_of line)) (written_for line (m (partition_of line)))
-    needed_with = counted_with (λ l k e. wanting l k (written_for line e))
+    pub needed_with : needed line plays.before ≡ spent_for limits (n (partition_of line)) (written_for line (m (partition_of line)))
+    needed_with = counted_with (λ l k e. spent_for l k (written_for line e))
 
     pub counted_go : Counts line plays.before plays.after → EachFits HasNumbers new (numbers_after_one limits line m n)
     counted_go on =
@@ -194,7 +195,7 @@ module _ (lines : List Line) (i : ℕ) (line : Line) (within : i < length lines)
   module _ (tells : Bool) (step : Step) (old mid new : List Standing) (before then' : Option (List ℕ)) (text : List ℕ)
       (so : SoFar tells lines i old mid before then') (plays : PlaysAmong tells step line mid new text) where
     module _ (limits : Limits) (start : Start) (have : HaveStart limits old start) where
-      needed_here : needed line plays.before ≡ wanting limits (numbers_after_lines limits (take i lines) start.maps (numbers_at start) (partition_of line)) (written_for line (maps_after_lines (take i lines) start.maps (partition_of line)))
+      needed_here : needed line plays.before ≡ spent_for limits (numbers_after_lines limits (take i lines) start.maps (numbers_at start) (partition_of line)) (written_for line (maps_after_lines (take i lines) start.maps (partition_of line)))
       needed_here =
           needed_with tells step line mid new text plays limits (maps_after_lines (take i lines) start.maps) (numbers_after_lines limits (take i lines) start.maps (numbers_at start))
           (so.going.limits limits have.limited) (so.going.maps start.maps have.maps) (so.going.counted limits start have)
@@ -207,7 +208,7 @@ module _ (lines : List Line) (i : ℕ) (line : Line) (within : i < length lines)
       needs_at next spent =
           let same : spent.line ≡ line = same_Some spent.line line (sym spent.there ∙ slice_get_at lines i line within is) in
           needed_here
-          ∙ subst (λ (x : Line). wanting limits (numbers_after_lines limits (take i lines) start.maps (numbers_at start) (partition_of x)) (written_for x (maps_after_lines (take i lines) start.maps (partition_of x))) ≡ Some next)
+          ∙ subst (λ (x : Line). spent_for limits (numbers_after_lines limits (take i lines) start.maps (numbers_at start) (partition_of x)) (written_for x (maps_after_lines (take i lines) start.maps (partition_of x))) ≡ Some next)
           same spent.needs
 
     -- it is answered, or refused for another cause
@@ -217,6 +218,14 @@ module _ (lines : List Line) (i : ℕ) (line : Line) (within : i < length lines)
 
       not_spent : (limits : Limits) (start : Start) → HaveStart limits old start → (next : ℕ) → ¬ IsSpentAt limits lines i start next
       not_spent limits start have next spent = other next (plays.plays.spent next (needs_at limits start have next spent))
+
+      -- so want of a number did not end the session here
+      spends_not : (ended : Ended) → ((next : ℕ) → ended ≡ ends.Spent next → ⊥) → (limits : Limits) (start : Start) → HaveStart limits old start → SpendsAt limits lines i i start ended
+      spends_not ended unlike limits start have = record {
+        unspent = so.going.unspent limits start have;
+        spent = λ next e. absurd (unlike next e);
+        told = λ next spent. absurd (not_spent limits start have next spent);
+      }
 
       unspent_more : (limits : Limits) (start : Start) → HaveStart limits old start → (j next : ℕ) → j < i + 1 → ¬ IsSpentAt limits lines j start next
       unspent_more limits start have j next below spent = elim (let split : (j < i) ⊎ (j ≡ i) = grind arith in split) [
@@ -319,11 +328,7 @@ module _ (lines : List Line) (i : ℕ) (line : Line) (within : i < length lines)
       replied = i;
       text = λ m each. (omega arith, omega arith, so.text m each);
       numbers = λ each. numbers_stay tells step line mid new text plays (so.going.numbers each);
-      spends = λ limits start have. record {
-        unspent = so.going.unspent limits start have;
-        spent = λ next e. cc;
-        told = λ next spent. absurd (not_spent other limits start have next spent);
-      };
+      spends = spends_not other Memory (λ next e. cc);
       number = λ limited next e. cc;
       whole = λ running. whole_all new (all_run tells step line mid new text plays so.going.runs goes);
       account = λ y begins a each.
@@ -341,11 +346,7 @@ module _ (lines : List Line) (i : ℕ) (line : Line) (within : i < length lines)
       replied = i;
       text = λ m each. (refl, so.text m each);
       numbers = λ each. numbers_stay tells step line mid new text plays (so.going.numbers each);
-      spends = λ limits start have. record {
-        unspent = so.going.unspent limits start have;
-        spent = λ next e. cc;
-        told = λ next spent. absurd (not_spent other limits start have next spent);
-      };
+      spends = spends_not other Disk (λ next e. cc);
       number = λ limited next e. cc;
       whole = λ failed. absurd (failed refl);
       account = λ y begins a each.
@@ -371,7 +372,7 @@ module _ (lines : List Line) (i : ℕ) (line : Line) (within : i < length lines)
       };
       number = λ limited other e.
           subst IsEnd (same_next next other e)
-          (wanting_end plays.before.limits (numbers_of plays.before) (written_for line plays.before.maps) next (so.going.limited limited (partition_of line) plays.before plays.was) needs);
+          (spent_end plays.before.limits (numbers_of plays.before) (written_for line plays.before.maps) next (so.going.limited limited (partition_of line) plays.before plays.was) needs);
       whole = λ other.
           whole_all new (all_run tells step line mid new text plays so.going.runs
           (record { running = ap (λ (s : Standing). s.halted) same; whole = ap (λ (s : Standing). s.lost) same }));

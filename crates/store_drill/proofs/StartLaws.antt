@@ -1,11 +1,13 @@
 -- A folder restarts to one start, and what lines need hangs only on what partitions that are there begin with.
-use Rattle.std.specs.Prelude.{◌≡◌, ℕ, ◌<◌, ◌==◌, Bool, true, false, List, [], ◌∷◌, All, take, None, Some, slice_get, zero, suc, if◌then◌else◌}
+use Rattle.std.specs.Prelude.{◌≡◌, ◌⊎◌, ℕ, ◌+◌, ◌<◌, ◌==◌, Bool, true, false, List, [], ◌∷◌, All, take, None, Some, slice_get, zero, suc, if◌then◌else◌}
 use Rattle.std.proofs.Common.{sym, ◌∙◌, ap, subst, inl, inr, arith}
 use Rattle.std.proofs.lemmas.List.Elements.{All-head, All-tail}
 use Rattle.hr_base.specs.declared.limits.Limits.{Limits}
+use Rattle.hr_base.specs.declared.name.ChunkName.{ChunkName}
 use Rattle.hr_base.specs.Entries.{Entries}
 use Rattle.dir_files.specs.Images.{Image}
 use Rattle.record_format.specs.declared.record.Record.{Record}
+use Rattle.record_format.specs.Spelling.{seq_of}
 use Rattle.crash_law.specs.Restarts.{Fact}
 use Rattle.crash_law.proofs.RestartLaws.{one_restart_of}
 use Rattle.record_replay.specs.Replays.{IsNext}
@@ -14,38 +16,27 @@ use Rattle.script_text.specs.declared.line.Mode.{Mode}
 use Rattle.script_text.specs.declared.line.Mode.TheVariants.{Play}
 use Rattle.script_text.specs.Lines.{IsLine, partition_of}
 use Rattle.script_text.specs.Replies.{changed_at, maps_after_line, maps_after_lines, maps_after_one}
-use Rattle.restart_load.specs.Writers.{IsNextChunk}
-use Rattle.store_drill.specs.Numbers.{IsSpentAt, Numbers, Start, numbers_after, numbers_after_lines, numbers_after_one, numbers_at, wanting, written_for}
+use Rattle.restart_load.specs.Writers.{IsNextChunk, IsWriterChunk}
+use Rattle.store_drill.specs.Numbers.{IsSpentAt, Numbers, Start, numbers_after, numbers_after_lines, numbers_after_one, numbers_at, spent_for, written_for}
 use Rattle.store_drill.specs.Sessions.{IsStart}
 use Rattle.store_drill.proofs.StepLaws.{of_partition}
 
 -- ---- the start of a folder
 
+-- the least number above those of some things, and 1 where there is none
+one_least : {A : Type 0} (IsOne : A → Type 0) (number : A → ℕ) (a b : ℕ)
+    → ((x : A) → IsOne x → number x < a) → ((x : A) × IsOne x × (number x + 1 ≡ a)) ⊎ (((x : A) → IsOne x → ⊥) × (a ≡ 1))
+    → ((x : A) → IsOne x → number x < b) → ((x : A) × IsOne x × (number x + 1 ≡ b)) ⊎ (((x : A) → IsOne x → ⊥) × (b ≡ 1)) → a ≡ b
+one_least IsOne number a b above (inl x) above' (inl y) = omega (arith, x.2, y.2, above y.0 y.1, above' x.0 x.1)
+one_least IsOne number a b above (inl x) above' (inr none) = absurd (none.0 x.0 x.1)
+one_least IsOne number a b above (inr none) above' (inl y) = absurd (none.0 y.0 y.1)
+one_least IsOne number a b above (inr none) above' (inr other) = none.1 ∙ sym other.1
+
 one_next : (facts : Record → Type 0) (a b : ℕ) → IsNext facts a → IsNext facts b → a ≡ b
-one_next facts a b x y =
-    elim x.least [
-      | inl r ↦ elim y.least [
-        | inl q ↦ omega (arith, r.2, q.2, y.above r.0 r.1, x.above q.0 q.1)
-        | inr none ↦ absurd (none.0 r.0 r.1)
-      ]
-      | inr none ↦ elim y.least [
-        | inl q ↦ absurd (none.0 q.0 q.1)
-        | inr other ↦ none.1 ∙ sym other.1
-      ]
-    ]
+one_next facts a b x y = one_least facts seq_of a b x.above x.least y.above y.least
 
 one_next_chunk : (image : Image) (p a b : ℕ) → IsNextChunk image p a → IsNextChunk image p b → a ≡ b
-one_next_chunk image p a b x y =
-    elim x.least [
-      | inl r ↦ elim y.least [
-        | inl q ↦ omega (arith, r.2, q.2, y.above r.0 r.1, x.above q.0 q.1)
-        | inr none ↦ absurd (none.0 r.0 r.1)
-      ]
-      | inr none ↦ elim y.least [
-        | inl q ↦ absurd (none.0 q.0 q.1)
-        | inr other ↦ none.1 ∙ sym other.1
-      ]
-    ]
+one_next_chunk image p a b x y = one_least (IsWriterChunk image p) (λ (name : ChunkName). name.number.0) a b x.above x.least y.above y.least
 
 -- the same for each partition that is there
 abbrev SameBelow : {A : Type 0} → ℕ → (ℕ → A) → (ℕ → A) → Type 0
@@ -124,8 +115,8 @@ spent_same limits partitions lines count a b next all same spent =
       line = spent.line;
       there = spent.there;
       needs =
-          sym (ap (λ (n : Numbers). wanting limits n (written_for spent.line (maps_after_lines (take count lines) a.maps p))) numbers
-          ∙ ap (λ (e : Entries). wanting limits (numbers_after_lines limits (take count lines) b.maps (numbers_at b) p) (written_for spent.line e)) maps)
+          sym (ap (λ (n : Numbers). spent_for limits n (written_for spent.line (maps_after_lines (take count lines) a.maps p))) numbers
+          ∙ ap (λ (e : Entries). spent_for limits (numbers_after_lines limits (take count lines) b.maps (numbers_at b) p) (written_for spent.line e)) maps)
           ∙ spent.needs;
     }
 

@@ -36,7 +36,7 @@ use Rattle.partition_writer.specs.Answers.{WritesRecord, Writes, StandsAfter, Sy
 use Rattle.store_drill.specs.declared.step.Step.{Step}
 use Rattle.store_drill.specs.declared.step.Step.TheVariants.{Answered, NoReply, NoMemory, DiskFailed, Spent}
 use Rattle.store_drill.specs.Accounts.{account_after_line, account_after_refused}
-use Rattle.store_drill.specs.Numbers.{Numbers, Piece, fits_in, has_place, numbers_after, numbers_with, piece_of, wanting, with_size, writes_line, written_for}
+use Rattle.store_drill.specs.Numbers.{Numbers, Piece, fits_in, has_place, numbers_after, numbers_with, piece_of, spent_for, with_size, writes_line, written_for}
 use Rattle.store_drill.specs.Playing.{Counts, FitsRecord, GoesOn, Plays, needed, step_of}
 use Rattle.store_drill.specs.Writers.{numbers_of}
 
@@ -86,8 +86,8 @@ place_by_room : (s : Standing) (class : Class) (len : ℕ) → has_place s.limit
 place_by_room s class len = room_by_size (lane_of s.stock class).taking len (limit_of s.limits class)
 
 -- a writer refuses for want of a number as a line counts it
-pub wanting_spent : (s : Standing) (class : Class) (len : ℕ) → wanting s.limits (numbers_of s) (Some (piece_for class len)) ≡ spent_by s class len
-wanting_spent s class len =
+pub spent_for_writer : (s : Standing) (class : Class) (len : ℕ) → spent_for s.limits (numbers_of s) (Some (piece_for class len)) ≡ spent_by s class len
+spent_for_writer s class len =
     ap (λ (room : Bool). if nat_le SEQ_END s.next then Some s.next else if room then None else if nat_le CHUNK_NO_END s.next_chunk then Some s.next_chunk else None)
     (place_by_room s class len)
 
@@ -152,11 +152,11 @@ counts_same line s t unwritten limits same = record {
 
 -- and its writer lacks no number
 pub unneeded : (line : Line) (s : Standing) → writes_line line s.maps ≡ false → needed line s ≡ None
-unneeded line s unwritten = ap (wanting s.limits (numbers_of s)) (nothing_for line s.maps unwritten)
+unneeded line s unwritten = ap (spent_for s.limits (numbers_of s)) (nothing_for line s.maps unwritten)
 
 pub needed_spent : (line : Line) (s : Standing) (class : Class) (len : ℕ) → writes_line line s.maps ≡ true → piece_of line ≡ Some (piece_for class len) → needed line s ≡ spent_by s class len
 needed_spent line s class len written gives =
-    ap (wanting s.limits (numbers_of s)) (written_as line s.maps (piece_for class len) written gives) ∙ wanting_spent s class len
+    ap (spent_for s.limits (numbers_of s)) (written_as line s.maps (piece_for class len) written gives) ∙ spent_for_writer s class len
 
 taking_synced : (old new : Option Chunk) → AllZip KeepsChunk (option_to_list old) (option_to_list new) → option_map (λ (chunk : Chunk). chunk.size) new ≡ option_map (λ (chunk : Chunk). chunk.size) old
 taking_synced None None keeps = refl

@@ -1,7 +1,9 @@
 -- Writers in a list, one for each partition: one of them changes, one more is there.
-use Rattle.std.specs.Prelude.{◌≡◌, ◌≢◌, ℕ, ◌<◌, ◌≤◌, ◌==◌, true, false, List, [], ◌∷◌, ◌++◌, length, Some, slice_get, slice_set, refl, zero, suc}
+use Rattle.std.specs.Prelude.{◌≡◌, ◌≢◌, ℕ, ◌<◌, ◌≤◌, ◌==◌, true, false, List, [], ◌∷◌, ◌++◌, length, map, Some, get_or, slice_get, slice_set, refl, zero, suc}
+use Rattle.std.specs.Option.{option_map}
 use Rattle.std.proofs.Common.{sym, ◌∙◌, ap, subst, inl, inr, arith, eq-eqb, ◌⊎◌}
 use Rattle.std.proofs.lemmas.List.Sums.{get_or-le-sum_by, sum_by-set}
+use Rattle.std.proofs.lemmas.Option.{slice_get-get_or, slice_get-map}
 use Rattle.script_text.specs.Replies.{changed_at}
 use Rattle.partition_writer.specs.Standing.{Standing}
 use Rattle.restart_load.specs.Writers.{EachIs}
@@ -24,6 +26,9 @@ get_set_other (z ∷ xs) (suc i) (suc j) x apart = get_set_other xs i j x (λ e.
 pub get_at_end : {A : Type 0} (xs : List A) (x : A) (ys : List A) → slice_get (xs ++ x ∷ ys) (length xs) ≡ Some x
 get_at_end [] x ys = refl
 get_at_end (z ∷ xs) x ys = get_at_end xs x ys
+
+pub get_mapped : {A B : Type 0} (f : A → B) (xs : List A) (i : ℕ) (x : A) → i < length xs → slice_get (map f xs) i ≡ Some (f (get_or xs i x))
+get_mapped f xs i x below = slice_get-map f xs i ∙ ap (option_map f) (slice_get-get_or xs i x below)
 
 -- ---- one writer changes
 

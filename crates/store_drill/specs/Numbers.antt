@@ -85,9 +85,9 @@ numbers_after limits n None = n
 numbers_after limits n (Some piece) = numbers_with limits n piece
 
 -- the number that the record needs and that none can have: its own, or that of a new chunk
-abbrev pub wanting : Limits → Numbers → Option Piece → Option ℕ
-wanting limits n None = None
-wanting limits n (Some piece) =
+abbrev pub spent_for : Limits → Numbers → Option Piece → Option ℕ
+spent_for limits n None = None
+spent_for limits n (Some piece) =
     if nat_le SEQ_END n.next then Some n.next else if has_place limits n piece then None else if nat_le CHUNK_NO_END n.next_chunk then Some n.next_chunk else None
 
 -- ---- lines
@@ -117,7 +117,7 @@ numbers_at start p = record { next = start.next p; next_chunk = start.next_chunk
 pub record IsSpentAt (limits : Limits) (lines : List Line) (count : ℕ) (start : Start) (next : ℕ) : Type 0 where
   pub line : Line
   pub there : slice_get lines count ≡ Some line
-  pub needs : wanting limits (numbers_after_lines limits (take count lines) start.maps (numbers_at start) (partition_of line))
+  pub needs : spent_for limits (numbers_after_lines limits (take count lines) start.maps (numbers_at start) (partition_of line))
       (written_for line (maps_after_lines (take count lines) start.maps (partition_of line))) ≡ Some next
 
 -- A session answered so many lines, and wrote so many replies. None of the lines needed such a number; it ended for want of

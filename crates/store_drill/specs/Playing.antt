@@ -20,7 +20,7 @@ use Rattle.restart_load.specs.Writers.{EachIs}
 use Rattle.store_drill.specs.declared.step.Step.{Step}
 use Rattle.store_drill.specs.declared.step.Step.TheVariants.{Answered, NoReply, NoMemory, DiskFailed, Spent}
 use Rattle.store_drill.specs.Accounts.{account_after_line, account_after_refused, accounts_at}
-use Rattle.store_drill.specs.Numbers.{IsEnd, SpendsAt, Start, numbers_after, wanting, written_for}
+use Rattle.store_drill.specs.Numbers.{IsEnd, SpendsAt, Start, numbers_after, spent_for, written_for}
 use Rattle.store_drill.specs.Sessions.{TextAt}
 use Rattle.store_drill.specs.Writers.{EachFits, HasMaps, HasNumber, HaveStart, IsLimited, IsWhole, StandsAt, numbers_of}
 
@@ -41,7 +41,7 @@ pub record GoesOn (s t : Standing) : Type 0 where
 
 -- the number that its record needs on this writer, and that none can have
 abbrev pub needed : Line → Standing → Option ℕ
-needed line s = wanting s.limits (numbers_of s) (written_for line s.maps)
+needed line s = spent_for s.limits (numbers_of s) (written_for line s.maps)
 
 -- numbers were used up where its record was written
 pub record Counts (line : Line) (s t : Standing) : Type 0 where

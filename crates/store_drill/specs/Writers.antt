@@ -1,20 +1,15 @@
 -- The writers of a session, one for each partition, as contracts see them.
-use Rattle.std.specs.Prelude.{◌≡◌, ℕ, ◌≤◌, Bool, true, false, List, sum_by, Option, Some, None, slice_get}
+use Rattle.std.specs.Prelude.{◌≡◌, ℕ, ◌≤◌, false, List, sum_by, Option, Some, None, slice_get}
 use Rattle.std.specs.Option.{option_map}
 use Rattle.hr_base.specs.Entries.{Entries}
 use Rattle.hr_base.specs.declared.limits.Limits.{Limits}
 use Rattle.hr_base.specs.declared.limits.TheConstants.{CHUNK_NO_END, SEQ_END}
 use Rattle.hr_base.specs.declared.name.ChunkName.{ChunkName}
-use Rattle.hr_base.specs.declared.name.Class.{Class}
 use Rattle.dir_files.specs.Files.{FileState, Files}
-use Rattle.dir_files.specs.Images.{Image}
-use Rattle.crash_law.specs.Accounts.{Account, fresh_account}
-use Rattle.crash_law.specs.Restarts.{Fact}
-use Rattle.record_replay.specs.Replays.{IsNext}
-use Rattle.writer_chunks.specs.Lanes.{empty_lane}
+use Rattle.crash_law.specs.Accounts.{Account}
 use Rattle.writer_files.specs.Stocks.{files_of, lane_of}
 use Rattle.partition_writer.specs.Standing.{Standing, Beginning, Stands}
-use Rattle.restart_load.specs.Writers.{EachIs, IsNextChunk, beginning_of}
+use Rattle.restart_load.specs.Writers.{EachIs, HasLimits}
 use Rattle.store_drill.specs.Numbers.{Numbers, Start, numbers_at}
 
 -- ---- all writers
@@ -41,9 +36,6 @@ numbers_of s = record { next = s.next; next_chunk = s.next_chunk; sizes = λ cla
 
 abbrev pub HasNumbers : ℕ → Numbers → Standing → Type 0
 HasNumbers p numbers s = numbers_of s ≡ numbers
-
-abbrev pub HasLimits : Limits → Standing → Type 0
-HasLimits limits s = s.limits ≡ limits
 
 -- the writers have these limits, maps and numbers
 pub record HaveStart (limits : Limits) (writers : List Standing) (start : Start) : Type 0 where
@@ -83,23 +75,6 @@ pub record AreLimited (n : Numbers) : Type 0 where
 
 abbrev pub IsLimited : Standing → Type 0
 IsLimited s = AreLimited (numbers_of s)
-
--- ---- what writers begin with
-
--- A writer of the partition that goes on from these files, has done nothing yet and has no chunk in hand.
-pub record Begins (tells : Bool) (image : Image) (p : ℕ) (s : Standing) : Type 0 where
-  pub number : s.partition.0 ≡ p
-  pub runs : Runs s
-  pub faults : s.faults ≡ 0
-  pub lanes : (class : Class) → lane_of s.stock class ≡ empty_lane class
-  pub files : tells ≡ true → (name : ChunkName) → files_of s.stock name ≡ None
-  pub next : tells ≡ true → IsNext (Fact image p) s.next
-  pub next_chunk : tells ≡ true → IsNextChunk image p s.next_chunk
-  pub account : tells ≡ true → Stands s (beginning_of image s) (fresh_account s.maps)
-
--- and so does each of them
-abbrev pub AllBegin : Bool → Image → List Standing → Type 0
-AllBegin tells image writers = (p : ℕ) (s : Standing) → slice_get writers p ≡ Some s → Begins tells image p s
 
 -- ---- their files
 

@@ -10,10 +10,10 @@ ghost use Rattle.crash_law.specs.Restarts.{IsRestartable};
 ghost use Rattle.partition_writer.specs.WriterViews.{standing};
 ghost use Rattle.script_text.specs.Dumps.{dump_lines, lines_of_maps};
 ghost use Rattle.restart_load.specs.declared.ended.Ended.{Ended};
-ghost use Rattle.restart_load.specs.Writers.{standings};
+ghost use Rattle.restart_load.specs.Writers.{AreResumed, standings};
 ghost use Rattle.store_drill.specs.Dumping.{DumpAt, Dumped, Wrote, lines_of_entries};
 ghost use Rattle.store_drill.specs.Sessions.{outside};
-ghost use Rattle.store_drill.specs.Writers.{AllBegin, EachFits, HasMaps, HasNumber};
+ghost use Rattle.store_drill.specs.Writers.{EachFits, HasMaps, HasNumber};
 
 use crate::output::write_all;
 use crate::writers::close_writers;
@@ -105,7 +105,7 @@ fn dump_restarted<F: Folder, K: Sink>(
     out: &mut K,
     writers: Vec<Writer<F>>,
 ) -> Ended
-    requires begun { AllBegin F.tells (read_of (F.port folder.old)) (standings writers.items) }
+    requires resumed { AreResumed F.tells (read_of (F.port folder.old)) (standings writers.items) }
     requires restartable { F.tells ≡ true → IsRestartable (read_of (F.port folder.old)) (length writers.items) }
     requires at_rest { F.tells ≡ true → IsAtRest (F.port folder.old) }
     ensures calm { F.tells ≡ true → IsCalm (F.port folder.new) }

@@ -10,10 +10,10 @@ ghost use Rattle.crash_law.specs.Restarts.{IsRestartable};
 ghost use Rattle.script_text.specs.declared.line.Mode.TheVariants.{Play};
 ghost use Rattle.script_text.specs.Lines.{IsLine};
 ghost use Rattle.restart_load.specs.declared.ended.Ended.{Ended};
-ghost use Rattle.restart_load.specs.Writers.{EachIs, standings};
+ghost use Rattle.restart_load.specs.Writers.{AreResumed, EachIs, HasLimits, standings};
 ghost use Rattle.store_drill.specs.Playing.{Played};
 ghost use Rattle.store_drill.specs.Sessions.{Ran, Session, outside};
-ghost use Rattle.store_drill.specs.Writers.{AllBegin, HasLimits, Runs, faults_of};
+ghost use Rattle.store_drill.specs.Writers.{Runs, faults_of};
 
 use crate::lines::play_lines;
 use crate::writers::close_writers;
@@ -52,7 +52,7 @@ fn play_restarted<F: Folder, K: Sink>(
     mut writers: Vec<Writer<F>>,
 ) -> Ended
     requires valid { All (IsLine Play (length writers.items)) lines.now }
-    requires begun { AllBegin F.tells (read_of (F.port folder.old)) (standings writers.items) }
+    requires resumed { AreResumed F.tells (read_of (F.port folder.old)) (standings writers.items) }
     requires restartable { F.tells ≡ true → IsRestartable (read_of (F.port folder.old)) (length writers.items) }
     requires at_rest { F.tells ≡ true → IsAtRest (F.port folder.old) }
     ensures calm { F.tells ≡ true → IsCalm (F.port folder.new) }

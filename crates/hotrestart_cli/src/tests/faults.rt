@@ -1,7 +1,7 @@
 //! One short script with a fault of the folder, the source or the sink.
 
 use super::disk::Disk;
-use super::files::{VALUES, name_of};
+use super::files::{RECORD, VALUES, name_of};
 use super::{NEVER, plan_from, run_between};
 use hr_edges::{MemSink, MemSource};
 use std::alloc::Global;
@@ -9,9 +9,6 @@ use std::process::Abort;
 use std::test::Fail;
 
 const SCRIPT: &[u8] = b"0 put 5 k1 v1\n0 sync\n0 get 5 k1\n";
-
-/// What is stored of the script.
-const RECORD: &[u8] = b"\0\0\0\0\0\0\0\x01\0\0\0\0\0\0\0\x05\0\0\0\x02\0\0\0\x02k1v1";
 
 /// A run of the script over an empty folder with a fault: from which call on the folder's root fails, and the first port
 /// that it gives; the first call at which the source or the sink fails; the most bytes that the sink takes in a write, and

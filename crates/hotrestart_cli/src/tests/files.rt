@@ -49,6 +49,21 @@ pub struct Stored {
     pub pieces: &'static [Piece],
 }
 
+/// The value record of number 1, map 5, key `k1` and value `v1`.
+pub const RECORD: &[u8] = b"\0\0\0\0\0\0\0\x01\0\0\0\0\0\0\0\x05\0\0\0\x02\0\0\0\x02k1v1";
+
+/// A file of this record.
+pub const FIRST_STORED: Stored = Stored {
+    name: VALUES,
+    pieces: &[Piece::Raw(RECORD)],
+};
+
+/// A file of two values.
+pub const TWO_VALUES: Stored = Stored {
+    name: VALUES,
+    pieces: &[Piece::V(1, 7, b"a", b"1"), Piece::V(3, 7, b"b", b"2")],
+};
+
 /// A file with its bytes.
 pub type File = (ChunkName, Vec<u8>);
 

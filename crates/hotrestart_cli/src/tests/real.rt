@@ -1,5 +1,6 @@
 //! The program over a folder of the system.
 
+use super::files::{RECORD, VALUES};
 use super::words;
 use crate::serve::serve;
 use hr_edges::{MemSink, MemSource};
@@ -7,8 +8,6 @@ use real_folder::RealFolder;
 use std::process::Abort;
 use std::test::Fail;
 use std::{env, fs, io, process};
-
-const FILE: &str = "p00-v-0000000000000001.chunk";
 
 /// The path of an empty folder that no other test has.
 fn scratch(rt: &HostRuntime, test: &str) -> io::Result<String> {
@@ -64,12 +63,11 @@ fn read(rt: &HostRuntime, path: &String, file: &str) -> io::Result<Vec<u8>> {
 fn sessions_go_on_over_one_folder(rt: HostRuntime) -> Result<(), Fail> {
     let path = scratch(&rt, "goes")?;
     fs::write(&rt, path_in(&rt, &path, "notes.txt")?, "mine")?;
-    let record = b"\0\0\0\0\0\0\0\x01\0\0\0\0\0\0\0\x05\0\0\0\x02\0\0\0\x02k1v1";
 
     let script = b"0 put 5 k1 v1\n0 sync\n0 get 5 k1\n";
     let seen = run(&rt, &path, "DIR play", script)?;
     seen.expect(&rt, "first", 0, b"0 none\n0 synced\n0 is v1\n", "");
-    assert_eq!(rt; read(&rt, &path, FILE)?.as_slice(), record.as_slice());
+    assert_eq!(rt; read(&rt, &path, VALUES)?.as_slice(), RECORD);
     let seen = run(&rt, &path, "DIR dump", b"")?;
     seen.expect(&rt, "first dump", 0, b"0 5 k1 v1\n", "");
 
@@ -77,7 +75,7 @@ fn sessions_go_on_over_one_folder(rt: HostRuntime) -> Result<(), Fail> {
     let seen = run(&rt, &path, "DIR play", script)?;
     let replies = b"0 is v1\n0 none\n3 none\n0 was v1\n0 synced\n";
     seen.expect(&rt, "second", 0, replies, "");
-    assert_eq!(rt; read(&rt, &path, FILE)?.as_slice(), record.as_slice());
+    assert_eq!(rt; read(&rt, &path, VALUES)?.as_slice(), RECORD);
     let seen = run(&rt, &path, "DIR dump", b"")?;
     seen.expect(&rt, "second dump", 0, b"0 5 k2 v2\n3 1 a x\n", "");
 

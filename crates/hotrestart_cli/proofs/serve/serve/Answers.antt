@@ -6,9 +6,9 @@ use Rattle.hotrestart_cli.specs.Outcome.{last_line}
 use Rattle.hotrestart_cli.specs.Served.{WasDone, WasRefused, WasSpentBy, WasUnloadable, partitions_of}
 use Rattle.hotrestart_cli.proofs.Doings.{begins_fit, begins_loadable, begins_unspent, done_restarts, done_told, number_told, read_told, spent_restarts, unwritten_by}
 use Rattle.hotrestart_cli.proofs.Meanings.{means_this, rose_earlier, rose_later}
-use Rattle.hotrestart_cli.proofs.Outcomes.{all_done, disk_told, early_told, input_told, wordless_told, wanting_told, words_told, wrong_told}
+use Rattle.hotrestart_cli.proofs.Outcomes.{all_done, disk_told, early_told, input_told, wordless_told, spends_told, words_told, wrong_told}
 use Rattle.hotrestart_cli.proofs.Refusals.{fit_refused, refused_told, unfit_told, unloadable_told}
-use Rattle.hotrestart_cli.proofs.Spendings.{wanting_fit, wanting_restarts, wanting_undone}
+use Rattle.hotrestart_cli.proofs.Spendings.{spends_fit, spends_restarts, spends_undone}
 use Rattle.hotrestart_cli.proofs.serve.serve.Goals as goal
 
 pub returns-clause-whole : goal.returns-clause-whole
@@ -82,14 +82,14 @@ returns-clause-loaded g c y command meaning fit refusal content first =
     (λ e. fit_refused command _ _ _ _ fit (means_this _ (λ x. WasRefused x _ _ _ _) command meaning (refused_told _ _ _ _ _ _ _ because heard e)))
     (λ e. not_refused _ _ (spent_restarts command _ _ _ _ (means_this _ (λ x. WasSpentBy x _ _ _ _) command meaning (number_told _ _ _ _ _ _ _ because heard y e))) refusal first content)
 
-pub returns-clause-wanting : goal.returns-clause-wanting
-returns-clause-wanting g c y limits meaning will =
+pub returns-clause-spends : goal.returns-clause-spends
+returns-clause-spends g c y limits meaning will =
     let heard = c.tell.ensures.told in
     let because = c.run-outcome.ensures.because in
-    wanting_told _ _ _ _ heard
-    (λ e. wanting_undone _ limits _ _ _ _ y (limits_in_range _ (Play limits) meaning) will (means_this _ (λ x. WasDone _ x _ _ _ _) (Play limits) meaning (done_told _ _ _ _ _ _ _ because heard e)))
+    spends_told _ _ _ _ heard
+    (λ e. spends_undone _ limits _ _ _ _ y (limits_in_range _ (Play limits) meaning) will (means_this _ (λ x. WasDone _ x _ _ _ _) (Play limits) meaning (done_told _ _ _ _ _ _ _ because heard e)))
     (λ e. (c.run-outcome.ensures.words (words_told _ _ _ _ heard e)).0 (Play limits) meaning)
-    (λ e. fit_refused (Play limits) _ _ _ _ (wanting_fit limits _ _ will) (means_this _ (λ x. WasRefused x _ _ _ _) (Play limits) meaning (refused_told _ _ _ _ _ _ _ because heard e)))
+    (λ e. fit_refused (Play limits) _ _ _ _ (spends_fit limits _ _ will) (means_this _ (λ x. WasRefused x _ _ _ _) (Play limits) meaning (refused_told _ _ _ _ _ _ _ because heard e)))
     (λ e.
     let wrong = means_this _ (λ x. WasUnloadable (partitions_of x) _ _ _) (Play limits) meaning (unloadable_told _ _ _ _ _ _ _ because heard y e) in
-    not_refused _ _ (wanting_restarts limits _ _ will) wrong.refusal wrong.first wrong.content)
+    not_refused _ _ (spends_restarts limits _ _ will) wrong.refusal wrong.first wrong.content)

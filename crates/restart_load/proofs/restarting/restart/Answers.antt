@@ -42,6 +42,9 @@ open_writers-requires-clause-open g c =
     subst (λ (chunks : List ℕ). CanOpenAll c.in_ok-parts.parts.items chunks) (sym c.as_slice-4.ensures.value)
     (can_open c.in_ok-contents.contents.items c.as_slice-3.result.now c.in_ok-parts.parts.items c.in_ok-chunks.chunks.items c.in_ok-parts.ensures.replayed c.in_ok-chunks.ensures.next)
 
+pub returns-clause-limits : goal.returns-clause-limits
+returns-clause-limits g c = λ p s is. (c.in_ok-writers.ensures.opened p s is).4.limited
+
 pub returns-clause-resumed : goal.returns-clause-resumed
 returns-clause-resumed g c =
     let known : All (λ (name : ChunkName). name.partition.0 < c.args.limits.now.partitions) c.in_ok-names.names.items =

@@ -6,33 +6,30 @@ use Rattle.restart_load.specs.Taking.{AllDurableWith, HasTaken, TakenFile, bytes
 use Rattle.restart_load.proofs.FolderLaws.{durable_same, first_large_same, names_length, taken_same, written_back}
 use Rattle.restart_load.proofs.restarting.secure.Goals as goal
 
+-- the files that were read are those that were taken
+still : (count : ℕ) (items slice read : List TakenFile) → read ≡ slice → slice ≡ items → count ≡ length items → take count (read ++ drop (length read) items) ≡ items
+still count items slice read same whole all = written_back count items read (ap length (same ∙ whole)) all ∙ same ∙ whole
+
 pub returns-clause-taken : goal.returns-clause-taken
 returns-clause-taken g c = λ tells.
     let items : List TakenFile = c.take_files.new.files.items in
-    let read : List TakenFile = c.read_files.new.files in
-    let same : read ≡ items = c.read_files.ensures.same tells ∙ c.as_mut_slice.ensures.value in
-    let back : take c.take_files.new.files.len (read ++ drop (length read) items) ≡ read = written_back c.take_files.new.files.len items read (ap length same) (search rules) in
-    subst (λ (files : List TakenFile). HasTaken (g.F.Folder.port c.args.folder.now) (g.F.Folder.port c.read_files.new.folder) files) (sym (back ∙ same))
+    subst (λ (files : List TakenFile). HasTaken (g.F.Folder.port c.args.folder.now) (g.F.Folder.port c.read_files.new.folder) files)
+    (sym (still c.take_files.new.files.len items _ c.read_files.new.files (c.read_files.ensures.same tells) c.as_mut_slice.ensures.value (search rules)))
     (taken_same _ _ _ items (c.read_files.ensures.port tells) (c.take_files.ensures.taken tells))
 
 pub returns-clause-durable : goal.returns-clause-durable
 returns-clause-durable g c = λ tells.
     let items : List TakenFile = c.take_files.new.files.items in
-    let read : List TakenFile = c.read_files.new.files in
-    let same : read ≡ items = c.read_files.ensures.same tells ∙ c.as_mut_slice.ensures.value in
-    let back : take c.take_files.new.files.len (read ++ drop (length read) items) ≡ read = written_back c.take_files.new.files.len items read (ap length same) (search rules) in
-    let durable : AllDurableWith (g.F.Folder.port c.read_files.new.folder) (take c.take_files.new.files.len (read ++ drop (length read) items)) =
-    subst (λ (files : List TakenFile). AllDurableWith (g.F.Folder.port c.read_files.new.folder) files) (sym (back ∙ same))
+    let durable : AllDurableWith (g.F.Folder.port c.read_files.new.folder) (take c.take_files.new.files.len (c.read_files.new.files ++ drop (length c.read_files.new.files) items)) =
+    subst (λ (files : List TakenFile). AllDurableWith (g.F.Folder.port c.read_files.new.folder) files)
+    (sym (still c.take_files.new.files.len items _ c.read_files.new.files (c.read_files.ensures.same tells) c.as_mut_slice.ensures.value (search rules)))
     (durable_same _ _ items (c.read_files.ensures.port tells) (c.in_ok-take_files.ensures.durable tells)) in
     IfOk-weaker c.read_files.result _ _ (λ _ h. durable) c.read_files.ensures.names
 
 pub returns-clause-read : goal.returns-clause-read
 returns-clause-read g c = λ tells.
-    let items : List TakenFile = c.take_files.new.files.items in
-    let read : List TakenFile = c.read_files.new.files in
-    let same : read ≡ items = c.read_files.ensures.same tells ∙ c.as_mut_slice.ensures.value in
-    let back : take c.take_files.new.files.len (read ++ drop (length read) items) ≡ read = written_back c.take_files.new.files.len items read (ap length same) (search rules) in
-    IfOk-weaker c.read_files.result _ _ (λ _ h. h ∙ ap (map bytes_of) (sym (back ∙ c.read_files.ensures.same tells))) (c.read_files.ensures.read tells)
+    let back = still c.take_files.new.files.len c.take_files.new.files.items _ c.read_files.new.files (c.read_files.ensures.same tells) c.as_mut_slice.ensures.value (search rules) in
+    IfOk-weaker c.read_files.result _ _ (λ _ h. h ∙ ap (map bytes_of) (c.as_mut_slice.ensures.value ∙ sym back)) (c.read_files.ensures.read tells)
 
 pub returns-clause-names : goal.returns-clause-names
 returns-clause-names g c =

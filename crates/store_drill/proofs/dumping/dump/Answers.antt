@@ -1,21 +1,23 @@
 use Rattle.std.proofs.Common.{ℕ, inl, refl, sym, subst}
 use Rattle.dir_files.specs.Images.{read_of}
 use Rattle.crash_law.specs.Restarts.{IsRestartable}
+use Rattle.restart_load.proofs.ResumedLaws.{restartable_same, resumed_same}
 use Rattle.restart_load.specs.Writers.{standings}
 use Rattle.store_drill.specs.Dumping.{Dumped}
 use Rattle.store_drill.specs.Sessions.{outside}
 use Rattle.store_drill.proofs.DumpLaws.{wrote_after}
-use Rattle.store_drill.proofs.FolderLaws.{begun_resumed, not_begun, restartable_since}
+use Rattle.store_drill.proofs.FolderLaws.{not_begun}
 use Rattle.store_drill.proofs.dumping.dump.Goals as goal
 
-pub dump_restarted-requires-clause-begun : goal.dump_restarted-requires-clause-begun
-dump_restarted-requires-clause-begun g c =
-    begun_resumed g.F.Folder.tells c.args.limits.now (g.F.Folder.port c.args.folder.now) (g.F.Folder.port c.restart.new.folder) (standings c.in-Ok.writers.items) c.restart.ensures.images c.in-Ok.ensures.resumed
+pub dump_restarted-requires-clause-resumed : goal.dump_restarted-requires-clause-resumed
+dump_restarted-requires-clause-resumed g c =
+    resumed_same g.F.Folder.tells (read_of (g.F.Folder.port c.restart.new.folder)) (read_of (g.F.Folder.port c.args.folder.now)) (standings c.in-Ok.writers.items)
+    (λ y. (c.restart.ensures.images y).read) c.in-Ok.ensures.resumed
 
 pub dump_restarted-requires-clause-restartable : goal.dump_restarted-requires-clause-restartable
 dump_restarted-requires-clause-restartable g c = λ y.
     subst (λ (partitions : ℕ). IsRestartable (read_of (g.F.Folder.port c.restart.new.folder)) partitions) (sym c.in-Ok.ensures.each)
-    (restartable_since _ _ c.args.limits.now.partitions (c.restart.ensures.images y) (c.in-Ok.ensures.restartable y))
+    (restartable_same _ _ c.args.limits.now.partitions (c.restart.ensures.images y).read (c.in-Ok.ensures.restartable y))
 
 pub returns-in-Ok-clause-wrote : goal.returns-in-Ok-clause-wrote
 returns-in-Ok-clause-wrote g c =

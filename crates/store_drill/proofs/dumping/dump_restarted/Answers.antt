@@ -14,23 +14,23 @@ use Rattle.store_drill.proofs.FolderLaws.{all_apart, all_own, begun_stand, begun
 use Rattle.store_drill.proofs.dumping.dump_restarted.Goals as goal
 
 pub dump_writers-ended-requires : goal.dump_writers-ended-requires
-dump_writers-ended-requires g c = record { numbers = λ p s is. (c.requires.begun p s (ap (λ writers. slice_get (standings writers) p) (sym c.as_slice.ensures.value) ∙ is)).number }
+dump_writers-ended-requires g c = record { numbers = λ p s is. (c.requires.resumed p s (ap (λ writers. slice_get (standings writers) p) (sym c.as_slice.ensures.value) ∙ is)).number }
 
 pub close_writers-requires-clause-given_back : goal.close_writers-requires-clause-given_back
 close_writers-requires-clause-given_back g c = λ y. (c.requires.at_rest y).given_back
 
 pub close_writers-requires-clause-numbers : goal.close_writers-requires-clause-numbers
-close_writers-requires-clause-numbers g c = λ p s is. (c.requires.begun p s is).number
+close_writers-requires-clause-numbers g c = λ p s is. (c.requires.resumed p s is).number
 
 pub close_writers-requires-clause-own : goal.close_writers-requires-clause-own
 close_writers-requires-clause-own g c = λ y.
     all_own (g.F.Folder.port c.args.folder.now) (started (standings c.args.writers.items)) (standings c.args.writers.items) _
-    (begun_stand g.F.Folder.tells (read_of (g.F.Folder.port c.args.folder.now)) (standings c.args.writers.items) c.requires.begun y)
+    (begun_stand g.F.Folder.tells (read_of (g.F.Folder.port c.args.folder.now)) (standings c.args.writers.items) c.requires.resumed y)
 
 pub close_writers-requires-clause-apart : goal.close_writers-requires-clause-apart
 close_writers-requires-clause-apart g c = λ y.
     all_apart (g.F.Folder.port c.args.folder.now) (started (standings c.args.writers.items)) (standings c.args.writers.items) _
-    (begun_stand g.F.Folder.tells (read_of (g.F.Folder.port c.args.folder.now)) (standings c.args.writers.items) c.requires.begun y)
+    (begun_stand g.F.Folder.tells (read_of (g.F.Folder.port c.args.folder.now)) (standings c.args.writers.items) c.requires.resumed y)
 
 pub returns-clause-calm : goal.returns-clause-calm
 returns-clause-calm g c = λ y. (c.close_writers.ensures.given_back y).calm
@@ -43,10 +43,10 @@ returns-clause-dumped g c =
       maps = (started writers).maps;
       restarted = λ y.
           subst (λ (partitions : ℕ). AllRestart (read_of (g.F.Folder.port c.args.folder.now)) partitions (started writers).maps) count
-          (begun_start g.F.Folder.tells (read_of (g.F.Folder.port c.args.folder.now)) writers c.requires.begun y
+          (begun_start g.F.Folder.tells (read_of (g.F.Folder.port c.args.folder.now)) writers c.requires.resumed y
           (subst (λ (partitions : ℕ). IsRestartable (read_of (g.F.Folder.port c.args.folder.now)) partitions) (sym count) (c.requires.restartable y))).maps;
       text =
           subst (λ list. (maps : ℕ → Entries) → EachFits HasMaps (standings list) maps → DumpAt c.dump_writers-ended.result (dump_lines (length list) maps) (g.K.Sink.taken c.args.out.now) (g.K.Sink.taken c.dump_writers-ended.new.out))
           c.as_slice.ensures.value c.dump_writers-ended.ensures.text (started writers).maps (have_maps writers);
-      images = λ y. closed_keeps g.F.Folder.tells _ writers _ _ c.requires.begun y (c.requires.at_rest y) (c.close_writers.ensures.given_back y) (c.close_writers.ensures.held y);
+      images = λ y. closed_keeps g.F.Folder.tells _ writers _ _ c.requires.resumed y (c.requires.at_rest y) (c.close_writers.ensures.given_back y) (c.close_writers.ensures.held y);
     }

@@ -1,14 +1,12 @@
 use Rattle.std.proofs.Common.{◌≡◌, ℕ, length, Some, slice_get, sym, subst, ap, ◌∙◌, arith}
-use Rattle.std.specs.Option.{option_map}
-use Rattle.std.proofs.lemmas.Option.{slice_get-get_or, slice_get-map}
-use Rattle.hr_base.specs.Entries.{Entries}
 use Rattle.partition_writer.specs.Standing.{Standing}
 use Rattle.partition_writer.specs.WriterViews.{standing}
-use Rattle.script_text.specs.Dumps.{dump_lines, lines_of_maps}
+use Rattle.script_text.specs.Dumps.{dump_lines}
 use Rattle.restart_load.specs.Writers.{standings}
 use Rattle.restart_load.specs.declared.ended.Ended.TheVariants.{Whole}
 use Rattle.store_drill.specs.Dumping.{DumpAt}
-use Rattle.store_drill.proofs.DumpLaws.{dump_none, partition_stops, partition_then}
+use Rattle.store_drill.proofs.DumpLaws.{dump_none, partition_stops, partition_then, written_of}
+use Rattle.store_drill.proofs.WriterListLaws.{get_mapped}
 use Rattle.store_drill.proofs.dumping.dump_writers.Goals as goal
 
 pub loop-writer-init : goal.loop-writer-init
@@ -20,12 +18,11 @@ returns-in_default g c =
     let i : ℕ = c.loop-writer.writer-index in
     let s : Standing = standing c.writer-item.result in
     let there : slice_get (standings writers) i ≡ Some s =
-    slice_get-map (λ w. standing w) writers i ∙ ap (option_map (λ w. standing w)) (slice_get-get_or writers i c.writer-item.result c.loop-writer-test.true) ∙ ap (λ w. Some (standing w)) (sym c.writer-item.is) in
+    get_mapped (λ w. standing w) writers i c.writer-item.result c.loop-writer-test.true ∙ ap (λ w. Some (standing w)) (sym c.writer-item.is) in
     record {
       text = λ maps each.
           partition_stops i (length writers) maps c.dump_writer.result _ _ _ c.loop-writer-test.true c.in_default.not-Whole (c.loop-writer.invariant.text maps each)
-          (subst (λ (m : Entries). DumpAt c.dump_writer.result (lines_of_maps i m) (g.K.Sink.taken c.loop-writer.out) (g.K.Sink.taken c.dump_writer.new.out)) (each i s there)
-          (subst (λ (p : ℕ). DumpAt c.dump_writer.result (lines_of_maps p s.maps) (g.K.Sink.taken c.loop-writer.out) (g.K.Sink.taken c.dump_writer.new.out)) (c.requires.numbers i s there) c.dump_writer.ensures.text));
+          (written_of c.dump_writer.result s.partition.0 i s.maps (maps i) _ _ (c.requires.numbers i s there) (each i s there) c.dump_writer.ensures.text);
       sink = λ is. omega (arith, c.loop-writer.invariant.sink_kept, c.dump_writer.ensures.sink is);
       sink_kept = omega (arith, c.loop-writer.invariant.sink_kept, c.dump_writer.ensures.sink_kept);
     }
@@ -36,12 +33,11 @@ loop-writer-preserved g c =
     let i : ℕ = c.loop-writer.writer-index in
     let s : Standing = standing c.writer-item.result in
     let there : slice_get (standings writers) i ≡ Some s =
-    slice_get-map (λ w. standing w) writers i ∙ ap (option_map (λ w. standing w)) (slice_get-get_or writers i c.writer-item.result c.loop-writer-test.true) ∙ ap (λ w. Some (standing w)) (sym c.writer-item.is) in
+    get_mapped (λ w. standing w) writers i c.writer-item.result c.loop-writer-test.true ∙ ap (λ w. Some (standing w)) (sym c.writer-item.is) in
     record {
       text = λ maps each.
           partition_then i maps Whole _ _ _ (c.loop-writer.invariant.text maps each)
-          (subst (λ (m : Entries). DumpAt Whole (lines_of_maps i m) (g.K.Sink.taken c.loop-writer.out) (g.K.Sink.taken c.dump_writer.new.out)) (each i s there)
-          (subst (λ (p : ℕ). DumpAt Whole (lines_of_maps p s.maps) (g.K.Sink.taken c.loop-writer.out) (g.K.Sink.taken c.dump_writer.new.out)) (c.requires.numbers i s there) c.in-Whole.ensures.text));
+          (written_of Whole s.partition.0 i s.maps (maps i) _ _ (c.requires.numbers i s there) (each i s there) c.in-Whole.ensures.text);
       sink_kept = omega (arith, c.loop-writer.invariant.sink_kept, c.dump_writer.ensures.sink_kept);
     }
 

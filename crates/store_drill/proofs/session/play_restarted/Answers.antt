@@ -9,24 +9,24 @@ use Rattle.store_drill.proofs.FolderLaws.{all_apart, all_own, played_numbers, pl
 use Rattle.store_drill.proofs.session.play_restarted.Goals as goal
 
 pub play_on-ended-requires-clause-running : goal.play_on-ended-requires-clause-running
-play_on-ended-requires-clause-running g c = λ p s is. (c.requires.begun p s is).runs
+play_on-ended-requires-clause-running g c = λ p s is. record { running = (c.requires.resumed p s is).running; whole = (c.requires.resumed p s is).whole }
 
 pub close_writers-requires-clause-given_back : goal.close_writers-requires-clause-given_back
 close_writers-requires-clause-given_back g c = λ y. (c.requires.at_rest y).given_back
 
 pub close_writers-requires-clause-numbers : goal.close_writers-requires-clause-numbers
 close_writers-requires-clause-numbers g c =
-    played_numbers _ _ (g.F.Folder.port c.args.folder.now) (standings c.args.writers.items) (standings c.play_on-ended.new.writers.items) _ _ _ c.requires.begun c.play_on-ended.ensures.played
+    played_numbers _ _ (g.F.Folder.port c.args.folder.now) (standings c.args.writers.items) (standings c.play_on-ended.new.writers.items) _ _ _ c.requires.resumed c.play_on-ended.ensures.played
 
 pub close_writers-requires-clause-own : goal.close_writers-requires-clause-own
 close_writers-requires-clause-own g c = λ y.
     all_own (g.F.Folder.port c.args.folder.now) (started (standings c.args.writers.items)) (standings c.play_on-ended.new.writers.items) _
-    (played_stand _ _ (g.F.Folder.port c.args.folder.now) (standings c.args.writers.items) (standings c.play_on-ended.new.writers.items) _ _ _ c.requires.begun c.play_on-ended.ensures.played y)
+    (played_stand _ _ (g.F.Folder.port c.args.folder.now) (standings c.args.writers.items) (standings c.play_on-ended.new.writers.items) _ _ _ c.requires.resumed c.play_on-ended.ensures.played y)
 
 pub close_writers-requires-clause-apart : goal.close_writers-requires-clause-apart
 close_writers-requires-clause-apart g c = λ y.
     all_apart (g.F.Folder.port c.args.folder.now) (started (standings c.args.writers.items)) (standings c.play_on-ended.new.writers.items) _
-    (played_stand _ _ (g.F.Folder.port c.args.folder.now) (standings c.args.writers.items) (standings c.play_on-ended.new.writers.items) _ _ _ c.requires.begun c.play_on-ended.ensures.played y)
+    (played_stand _ _ (g.F.Folder.port c.args.folder.now) (standings c.args.writers.items) (standings c.play_on-ended.new.writers.items) _ _ _ c.requires.resumed c.play_on-ended.ensures.played y)
 
 pub returns-clause-calm : goal.returns-clause-calm
 returns-clause-calm g c = λ y. (c.close_writers.ensures.given_back y).calm
@@ -37,7 +37,7 @@ returns-clause-session g c limits limited each =
     let writers : List Standing = standings c.play_on-ended.new.writers.items in
     let count : length begun ≡ length c.args.writers.items = length-map c.args.writers.items (λ writer. standing writer) in
     let same : length writers ≡ length begun = length-map c.play_on-ended.new.writers.items (λ writer. standing writer) ∙ c.play_on-ended.ensures.same ∙ sym count in
-    session_ran _ limits _ begun writers _ _ _ c.requires.begun limited (count ∙ each)
+    session_ran _ limits _ begun writers _ _ _ c.requires.resumed limited (count ∙ each)
     (λ y. subst (λ (partitions : ℕ). IsRestartable (read_of (g.F.Folder.port c.args.folder.now)) partitions) each (c.requires.restartable y))
     c.requires.at_rest c.play_on-ended.ensures.played same c.close_writers.ensures.given_back c.close_writers.ensures.held
 

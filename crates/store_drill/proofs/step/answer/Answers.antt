@@ -1,12 +1,11 @@
 use Rattle.std.proofs.Common.{◌≡◌, ◌<◌, ℕ, Some, length, slice_get, slice_set, get_or, subst, ap, ◌∙◌, rules, arith}
-use Rattle.std.specs.Option.{option_map}
-use Rattle.std.proofs.lemmas.Option.{slice_get-get_or, slice_get-map}
 use Rattle.std.proofs.lemmas.List.{map-set}
 use Rattle.script_text.specs.declared.line.Mode.TheVariants.{Play}
 use Rattle.script_text.specs.Lines.{partition_of}
 use Rattle.partition_writer.specs.WriterViews.{standing}
 use Rattle.restart_load.specs.Writers.{standings}
 use Rattle.store_drill.proofs.StepLaws.{fits_record, of_partition}
+use Rattle.store_drill.proofs.WriterListLaws.{get_mapped}
 use Rattle.store_drill.proofs.step.answer.Goals as goal
 
 pub offset_bounds-writers-at : goal.offset_bounds-writers-at
@@ -26,7 +25,7 @@ answer_on-requires-clause-running g c =
     let at : ℕ = c.place-at.result in
     let within : at < length writers = omega (arith, c.place-at.ensures, of_partition Play (length writers) c.args.line.now c.requires.valid) in
     let writer = get_or writers at c.index-writers-at.result in
-    c.requires.running at (standing writer) (slice_get-map (λ w. standing w) writers at ∙ ap (option_map (λ w. standing w)) (slice_get-get_or writers at c.index-writers-at.result within))
+    c.requires.running at (standing writer) (get_mapped (λ w. standing w) writers at c.index-writers-at.result within)
 
 pub returns : goal.returns
 returns g c =
@@ -40,7 +39,7 @@ returns g c =
       after = standing c.answer_on.new.writer;
       was =
           subst (λ (n : ℕ). slice_get (standings writers) n ≡ Some (standing writer)) c.place-at.ensures
-          (slice_get-map (λ w. standing w) writers at ∙ ap (option_map (λ w. standing w)) (slice_get-get_or writers at c.index-writers-at.result within));
+          (get_mapped (λ w. standing w) writers at c.index-writers-at.result within);
       changed =
           map-set (λ w. standing w) writers at c.answer_on.new.writer
           ∙ ap (λ (n : ℕ). slice_set (standings writers) n (standing c.answer_on.new.writer)) c.place-at.ensures;
