@@ -1,6 +1,5 @@
 -- What the calls of sources and sinks do to the bytes, where these are told, and to the counts of failures.
 use Rattle.std.specs.Prelude.{◌≡◌, ℕ, ◌<◌, ◌≤◌, Bool, true, false, ◌&&◌, ◌==◌, nat_lt, List, [], ◌++◌, length, take, drop, Option, None, Some, Result, Ok, Err}
-use Rattle.hr_base.specs.Counts.{Rose}
 use Rattle.hr_edges.specs.declared.failure.Failed.{Failed}
 
 -- ---- both
@@ -9,12 +8,6 @@ use Rattle.hr_edges.specs.declared.failure.Failed.{Failed}
 abbrev pub StaysUntold : Option (List ℕ) → Option (List ℕ) → Type 0
 StaysUntold None new = new ≡ None
 StaysUntold (Some old) new = Unit {0}
-
--- the count of failures rose if the call failed, stays if it did not, and never falls
-pub record CountsFailure (failed : Bool) (before now : ℕ) : Type 0 where
-  pub rose : failed ≡ true → Rose before now
-  pub stays : failed ≡ false → now ≡ before
-  pub kept : before ≤ now
 
 -- ---- sources
 
@@ -48,9 +41,9 @@ IsRead (Some all) new = new ≡ Some []
 -- ---- sinks
 
 -- the sink took these bytes, where it tells what it takes
-abbrev pub Takes : Option (List ℕ) → Option (List ℕ) → List ℕ → Type 0
-Takes None new bytes = Unit {0}
-Takes (Some old) new bytes = new ≡ Some (old ++ bytes)
+abbrev pub TakesAll : Option (List ℕ) → Option (List ℕ) → List ℕ → Type 0
+TakesAll None new bytes = Unit {0}
+TakesAll (Some old) new bytes = new ≡ Some (old ++ bytes)
 
 -- the sink took a front of these bytes
 abbrev pub TakesFront : Option (List ℕ) → Option (List ℕ) → List ℕ → Type 0

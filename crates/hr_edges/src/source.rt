@@ -5,7 +5,8 @@ use crate::failure::Failed;
 /// Where the bytes of a session come from. Clauses on bytes hold where the source tells them.
 pub trait Source {
     ghost use Rattle.std.specs.Prelude.{◌≡◌, ◌<◌, ◌≤◌, ℕ, [], List, Option, IfSome, IfOk, OnErr, is_err, length};
-    ghost use Rattle.hr_edges.specs.Edges.{CountsFailure, GivesFirst, LeavesRest, StaysUntold};
+    ghost use Rattle.hr_base.specs.Counts.{CountsFault};
+    ghost use Rattle.hr_edges.specs.Edges.{GivesFirst, LeavesRest, StaysUntold};
 
     /// The bytes that are left, where that is told.
     ghost left: { Self → Option (List ℕ) };
@@ -23,7 +24,7 @@ pub trait Source {
         ensures refused { IfSome (left self.old)
             (λ bytes. OnErr result (LeavesRest bytes (left self.new))) }
         ensures untold { StaysUntold (left self.old) (left self.new) }
-        ensures counted { CountsFailure (is_err result) (count self.old) (count self.new) };
+        ensures counted { CountsFault (is_err result) (count self.old) (count self.new) };
 
     /// How often it failed, or the greatest number.
     fn faults(&self) -> u64

@@ -7,7 +7,7 @@ ghost use Rattle.dir_files.specs.Files.{FileState, new_file, with_bytes, synced_
 ghost use Rattle.dir_files.specs.Images.{IsImage, read_of, port_of_image};
 ghost use Rattle.dir_files.specs.Ports.{IsEmptyPort, IsPort, SamePort, CanJoin, Joins, IsListing, IsFreeName, Takes, Creates, SyncsNames, Gives, Removes};
 ghost use Rattle.dir_files.specs.Faults.{is_fault, is_remove_fault, kept_file, CountsFault, StaysSound};
-ghost use Rattle.mem_folder.specs.Memory.{port_of};
+ghost use Rattle.mem_folder.specs.Memory.{memory_port};
 ghost use Rattle.mem_folder.specs.Crashes.{CrashesTo};
 ghost use Rattle.mem_folder.specs.Lists.{image_of};
 ghost use Rattle.mem_folder.specs.Moves.{MovesBytes};
@@ -28,7 +28,7 @@ pub struct MemFolder {
     chain: Chain,
     faults: Faults,
     alloc: Global,
-    ghost lawful: { IsPort (port_of chain) },
+    ghost lawful: { IsPort (memory_port chain) },
 }
 
 impl MemFolder {
@@ -131,12 +131,12 @@ impl Folder for MemFolder {
     type File = MemFile;
 
     ghost use Rattle.std.specs.Prelude.{true, refl};
-    ghost use Rattle.mem_folder.specs.Memory.{port_of};
+    ghost use Rattle.mem_folder.specs.Memory.{memory_port};
     ghost use Rattle.mem_folder.specs.Plans.{is_sound, sound_count};
 
     ghost tells = { true };
 
-    ghost port = { λ folder. port_of folder.chain };
+    ghost port = { λ folder. memory_port folder.chain };
 
     ghost state = { λ file. file.content };
 
@@ -157,7 +157,7 @@ impl Folder for MemFolder {
     }
 
     fn fork(&mut self) -> Result<MemFolder, Memory>
-        ensures fresh { IfOk result (λ fork. IsEmptyPort (port_of fork.chain)) }
+        ensures fresh { IfOk result (λ fork. IsEmptyPort (memory_port fork.chain)) }
         ensures fresh_count { IfOk result (λ fork. fork.faults.count ≡ 0) }
         ensures fresh_sound { is_sound self.old.faults ≡ true → IfOk result (λ fork. is_sound fork.faults ≡ true) }
         ensures planned { IfOk result (λ fork. ForksPlan self.old.faults self.new.faults fork.faults) }
@@ -173,8 +173,8 @@ impl Folder for MemFolder {
     }
 
     fn adopt(&mut self, other: MemFolder)
-        requires { CanJoin (port_of self.old.chain) (port_of other.chain) }
-        ensures joined { Joins (port_of self.old.chain) (port_of other.chain) (port_of self.new.chain) }
+        requires { CanJoin (memory_port self.old.chain) (memory_port other.chain) }
+        ensures joined { Joins (memory_port self.old.chain) (memory_port other.chain) (memory_port self.new.chain) }
         ensures planned { KeepsPlan self.old.faults self.new.faults }
         ensures added { self.new.faults.count ≡ min (self.old.faults.count + other.faults.count) (2 ^ 64 - 1) }
         ensures kept { self.old.faults.count ≤ self.new.faults.count }
@@ -194,7 +194,7 @@ impl Folder for MemFolder {
 
     fn names(&mut self) -> Result<Vec<ChunkName>, FolderRefusal>
         ensures valid { IfOk result (λ names. All IsChunkName names.items) }
-        ensures listed { IfOk result (λ names. IsListing (port_of self.old.chain) names.items) }
+        ensures listed { IfOk result (λ names. IsListing (memory_port self.old.chain) names.items) }
         ensures same { self.new.chain ≡ self.old.chain }
         ensures planned { FollowsPlan self.old.faults self.new.faults (is_fault result) }
         ensures counts { CountsFault (is_fault result) self.old.faults.count self.new.faults.count }
@@ -208,9 +208,9 @@ impl Folder for MemFolder {
 
     fn take(&mut self, name: ChunkName) -> Result<MemFile, FolderRefusal>
         requires valid { IsChunkName name }
-        requires held { IsSome ((port_of self.old.chain).held name) }
-        ensures taken { OnOk result (Takes (port_of self.old.chain) (port_of self.new.chain) name) }
-        ensures file { IfOk result (λ file. (file.name ≡ name) × (Some file.content ≡ (port_of self.old.chain).held name)) }
+        requires held { IsSome ((memory_port self.old.chain).held name) }
+        ensures taken { OnOk result (Takes (memory_port self.old.chain) (memory_port self.new.chain) name) }
+        ensures file { IfOk result (λ file. (file.name ≡ name) × (Some file.content ≡ (memory_port self.old.chain).held name)) }
         ensures refused { OnErr result (self.new.chain ≡ self.old.chain) }
         ensures planned { FollowsPlan self.old.faults self.new.faults (is_fault result) }
         ensures counts { CountsFault (is_fault result) self.old.faults.count self.new.faults.count }
@@ -224,8 +224,8 @@ impl Folder for MemFolder {
 
     fn create(&mut self, name: ChunkName) -> Result<MemFile, FolderRefusal>
         requires valid { IsChunkName name }
-        requires free { IsFreeName (port_of self.old.chain) name }
-        ensures created { OnOk result (Creates (port_of self.old.chain) (port_of self.new.chain) name) }
+        requires free { IsFreeName (memory_port self.old.chain) name }
+        ensures created { OnOk result (Creates (memory_port self.old.chain) (memory_port self.new.chain) name) }
         ensures file { IfOk result (λ file. (file.name ≡ name) × (file.content ≡ new_file)) }
         ensures refused { OnErr result (self.new.chain ≡ self.old.chain) }
         ensures planned { FollowsPlan self.old.faults self.new.faults (is_fault result) }
@@ -275,7 +275,7 @@ impl Folder for MemFolder {
     }
 
     fn sync_names(&mut self) -> Result<(), FolderRefusal>
-        ensures synced { OnOk result (SyncsNames (port_of self.old.chain) (port_of self.new.chain)) }
+        ensures synced { OnOk result (SyncsNames (memory_port self.old.chain) (memory_port self.new.chain)) }
         ensures refused { OnErr result (self.new.chain ≡ self.old.chain) }
         ensures planned { FollowsPlan self.old.faults self.new.faults (is_fault result) }
         ensures counts { CountsFault (is_fault result) self.old.faults.count self.new.faults.count }
@@ -311,7 +311,7 @@ impl Folder for MemFolder {
     }
 
     fn remove(&mut self, file: MemFile) -> Result<(), RemoveRefusal<MemFile>>
-        ensures removed { Removes (port_of self.old.chain) (port_of self.new.chain) file.name file.content }
+        ensures removed { Removes (memory_port self.old.chain) (memory_port self.new.chain) file.name file.content }
         ensures done { kept_file result ≡ None }
         ensures planned { FollowsPlan self.old.faults self.new.faults (is_remove_fault result) }
         ensures counts { CountsFault (is_remove_fault result) self.old.faults.count self.new.faults.count }
@@ -327,7 +327,7 @@ impl Folder for MemFolder {
     }
 
     fn give(&mut self, file: MemFile)
-        ensures given { Gives (port_of self.old.chain) (port_of self.new.chain) file.name file.content }
+        ensures given { Gives (memory_port self.old.chain) (memory_port self.new.chain) file.name file.content }
         ensures same { self.new.faults ≡ self.old.faults }
     {
         let (slot, node) = file.into_slot();

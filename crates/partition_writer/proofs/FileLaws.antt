@@ -10,7 +10,7 @@ use Rattle.hr_base.specs.Names.{class_of_kind}
 use Rattle.hr_base.specs.NameTests.{is_name}
 use Rattle.hr_base.proofs.NameTestLaws.{is_name-same}
 use Rattle.dir_files.specs.Files.{FileState, Files, ChangesAt, SameAt, IsFile, IsDurable, KeepsMore, Rises}
-use Rattle.dir_files.specs.Images.{Image, files_of as found_files}
+use Rattle.dir_files.specs.Images.{Image, durable_files as found_files}
 use Rattle.dir_files.specs.Ports.{either_file}
 use Rattle.value_chunk.specs.Chunks.{Chunk}
 use Rattle.writer_chunks.specs.Lanes.{LaneState, empty_lane, takes, taking_fits}

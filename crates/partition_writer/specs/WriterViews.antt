@@ -1,14 +1,14 @@
 -- A writer as contracts see it.
 use Rattle.dir_files.specs.declared.folder.Folder.{Ghosts as FolderGhosts}
 use Rattle.hr_base.specs.declared.name.Named.{Ghosts as NamedGhosts}
-use Rattle.writer_files.specs.StockViews.{port_of as files_port, stock}
+use Rattle.writer_files.specs.StockViews.{stock_port as files_port, stock}
 use Rattle.partition_writer.specs.declared.writer.Writer.{Writer}
 use Rattle.partition_writer.specs.Standing.{Standing}
 
 module _ {F File : Type 0} {g : FolderGhosts F File} {h : NamedGhosts File} where
   -- its port as it is
-  abbrev pub port_of : Writer F File g h → F
-  port_of writer = files_port writer.files
+  abbrev pub stock_port : Writer F File g h → F
+  stock_port writer = files_port writer.files
 
   abbrev pub standing : Writer F File g h → Standing
   standing writer = record {

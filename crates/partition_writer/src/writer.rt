@@ -10,7 +10,7 @@ ghost use Rattle.writer_files.specs.Stocks.{files_of};
 ghost use Rattle.writer_files.specs.StockViews.{stock};
 ghost use Rattle.partition_writer.specs.Answers.{put_record, remove_record};
 ghost use Rattle.partition_writer.specs.Standing.{placed};
-ghost use Rattle.partition_writer.specs.Storing.{IsBelow, IsReady, NamesOwn};
+ghost use Rattle.partition_writer.specs.Storing.{IsBelow, IsUntorn, NamesOwn};
 
 use crate::noted::Noted;
 use crate::refusal::WriteRefusal;
@@ -114,7 +114,7 @@ pub struct Writer<F: Folder> {
     ghost chunk_numbered: { 1 ≤ next_chunk },
     ghost chunk_limited: { next_chunk ≤ CHUNK_NO_END },
     ghost own: { NamesOwn partition (stock files) },
-    ghost ready: { halted ≡ None → IsReady (stock files) },
+    ghost ready: { halted ≡ None → IsUntorn (stock files) },
     ghost below: { F.tells ≡ true → halted ≡ None → IsBelow (files_of (stock files)) next_chunk },
     ghost unlost: { halted ≡ None → lost ≡ false },
     pub ghost lengths: { KeepsLimits map.entries },
@@ -141,7 +141,7 @@ impl<F: Folder> Writer<F> {
     ghost use Rattle.crash_law.specs.Restarts.{RestartsAs};
     ghost use Rattle.partition_writer.specs.Disk.{HaltsAtFault};
     ghost use Rattle.partition_writer.specs.Standing.{Beginning, HoldsTail, IsBeginning, Stands, all_files, disk_of, limit_of, next_name, spent_by};
-    ghost use Rattle.partition_writer.specs.Answers.{KeepsRecords, Loses, StandsAfter, StandsSynced, SyncsAll, Writes, WritesRecord, clear_record, with_maps};
+    ghost use Rattle.partition_writer.specs.Answers.{KeepsNoted, Loses, StandsAfter, StandsSynced, SyncsAll, Writes, WritesRecord, clear_record, with_maps};
     ghost use Rattle.partition_writer.specs.WriterViews.{port_of, standing};
 
     /// A writer of the partition over a port of its own, which is a fresh fork. It goes on from these maps, with this

@@ -8,7 +8,7 @@ use Rattle.real_folder.specs.declared.faults.Faults.{Faults}
 
 -- what a call made of the failures that a port knows of: one more where the disk refused the call, and the first of all
 -- stays known
-pub record Notes (refused : Bool) (old new : Faults) : Type 0 where
+pub record NotesFault (refused : Bool) (old new : Faults) : Type 0 where
   pub counts : CountsFault refused old.count new.count
   pub noted : refused ≡ true → IsSome new.first
   pub kept : IsSome old.first → new.first ≡ old.first

@@ -5,7 +5,7 @@ ghost use Rattle.std.specs.declared.io.ErrorKind.TheVariants.{OutOfMemory};
 ghost use Rattle.std.specs.IoError.{error_kind};
 ghost use Rattle.hr_base.specs.Names.{IsChunkName};
 ghost use Rattle.dir_files.specs.Faults.{is_disk, is_fault, is_remove_fault, CountsFault};
-ghost use Rattle.real_folder.specs.Disk.{Notes, first_of};
+ghost use Rattle.real_folder.specs.Disk.{NotesFault, first_of};
 
 use crate::error::{DiskCall, DiskError, Place};
 use crate::faults::Faults;
@@ -87,7 +87,7 @@ impl<R> RealFolder<R> {
     /// Counts a fault of the disk, and answers it.
     fn fault(&mut self, call: DiskCall, place: Place, said: io::Error) -> FolderRefusal
         ensures answer { result ≡ FolderRefusal.Fault }
-        ensures noted { Notes true self.old.faults self.new.faults }
+        ensures noted { NotesFault true self.old.faults self.new.faults }
     {
         self.faults.note(DiskError { call, place, said });
         FolderRefusal::Fault
@@ -96,7 +96,7 @@ impl<R> RealFolder<R> {
     /// Answers an error of the system: a fault, which counts, unless it had no memory.
     fn refuse(&mut self, call: DiskCall, place: Place, said: io::Error) -> FolderRefusal
         ensures memory { result ≡ FolderRefusal.Memory → error_kind said ≡ OutOfMemory }
-        ensures noted { Notes (is_disk result) self.old.faults self.new.faults }
+        ensures noted { NotesFault (is_disk result) self.old.faults self.new.faults }
     {
         if said.kind() == ErrorKind::OutOfMemory {
             FolderRefusal::Memory
@@ -107,7 +107,7 @@ impl<R> RealFolder<R> {
 
     /// The same, of the folder itself.
     fn refuse_folder(&mut self, call: DiskCall, said: io::Error) -> FolderRefusal
-        ensures { Notes (is_disk result) self.old.faults self.new.faults }
+        ensures { NotesFault (is_disk result) self.old.faults self.new.faults }
     {
         let path = self.path.clone().ok();
         self.refuse(call, Place::Folder(path), said)
@@ -116,7 +116,7 @@ impl<R> RealFolder<R> {
     /// Counts a directory sync that the system refused, and answers it.
     fn fault_of_sync(&mut self, said: io::Error) -> FolderRefusal
         ensures answer { result ≡ FolderRefusal.Fault }
-        ensures noted { Notes true self.old.faults self.new.faults }
+        ensures noted { NotesFault true self.old.faults self.new.faults }
     {
         let path = self.path.clone().ok();
         self.fault(DiskCall::Sync, Place::Folder(path), said)
@@ -157,7 +157,7 @@ impl<R: Files> RealFolder<R> {
         how: &OpenOptions,
     ) -> Result<Opened<R::File>, FolderRefusal>
         requires { IsChunkName name }
-        ensures { Notes (is_fault result) self.old.faults self.new.faults }
+        ensures { NotesFault (is_fault result) self.old.faults self.new.faults }
     {
         let path = path_of(&self.path, name)?;
         match how.open(&self.rt, path.as_str()) {
@@ -172,7 +172,7 @@ impl<R: Files> RealFolder<R> {
     /// Opens a chunk's file for reading.
     fn open_to_read(&mut self, name: ChunkName) -> Result<Opened<R::File>, FolderRefusal>
         requires { IsChunkName name }
-        ensures { Notes (is_fault result) self.old.faults self.new.faults }
+        ensures { NotesFault (is_fault result) self.old.faults self.new.faults }
     {
         let mut how = OpenOptions::new();
         self.open(DiskCall::Open, name, how.read(true))
@@ -181,7 +181,7 @@ impl<R: Files> RealFolder<R> {
     /// Opens a chunk's file for appending, and for reading.
     fn open_to_append(&mut self, name: ChunkName) -> Result<Opened<R::File>, FolderRefusal>
         requires { IsChunkName name }
-        ensures { Notes (is_fault result) self.old.faults self.new.faults }
+        ensures { NotesFault (is_fault result) self.old.faults self.new.faults }
     {
         let mut how = OpenOptions::new();
         self.open(DiskCall::Open, name, how.read(true).append(true))
@@ -190,7 +190,7 @@ impl<R: Files> RealFolder<R> {
     /// Makes a chunk's file that is not there, and opens it for appending, and for reading.
     fn open_new(&mut self, name: ChunkName) -> Result<Opened<R::File>, FolderRefusal>
         requires { IsChunkName name }
-        ensures { Notes (is_fault result) self.old.faults self.new.faults }
+        ensures { NotesFault (is_fault result) self.old.faults self.new.faults }
     {
         let mut how = OpenOptions::new();
         let how = how.read(true).append(true).create_new(true);
@@ -297,7 +297,7 @@ where
 
     fn names(&mut self) -> Result<Vec<ChunkName>, FolderRefusal>
         ensures valid { IfOk result (λ names. All IsChunkName names.items) }
-        ensures noted { Notes (is_fault result) self.old.faults self.new.faults }
+        ensures noted { NotesFault (is_fault result) self.old.faults self.new.faults }
     {
         match list(&self.rt, &self.path) {
             Ok(names) => Ok(names),
@@ -309,7 +309,7 @@ where
     fn take(&mut self, name: ChunkName) -> Result<RealFile<R::File>, FolderRefusal>
         requires { IsChunkName name }
         ensures name { IfOk result (λ file. file.name ≡ name) }
-        ensures noted { Notes (is_fault result) self.old.faults self.new.faults }
+        ensures noted { NotesFault (is_fault result) self.old.faults self.new.faults }
     {
         Ok(RealFile::new(name, self.seen_now(), None))
     }
@@ -317,7 +317,7 @@ where
     fn create(&mut self, name: ChunkName) -> Result<RealFile<R::File>, FolderRefusal>
         requires { IsChunkName name }
         ensures name { IfOk result (λ file. file.name ≡ name) }
-        ensures noted { Notes (is_fault result) self.old.faults self.new.faults }
+        ensures noted { NotesFault (is_fault result) self.old.faults self.new.faults }
     {
         let opened = self.open_new(name)?;
         Ok(RealFile::new(name, self.seen_now(), Some(opened)))
@@ -327,7 +327,7 @@ where
     /// be written.
     fn append(&mut self, file: &mut RealFile<R::File>, piece: &[u8]) -> Result<(), FolderRefusal>
         ensures name { file.new.name ≡ file.old.name }
-        ensures noted { Notes (is_fault result) self.old.faults self.new.faults }
+        ensures noted { NotesFault (is_fault result) self.old.faults self.new.faults }
     {
         let mut opened = match file.opened.take() {
             Some(opened) if opened.appends => opened,
@@ -343,7 +343,7 @@ where
 
     fn sync_file(&mut self, file: &mut RealFile<R::File>) -> Result<(), FolderRefusal>
         ensures name { file.new.name ≡ file.old.name }
-        ensures noted { Notes (is_fault result) self.old.faults self.new.faults }
+        ensures noted { NotesFault (is_fault result) self.old.faults self.new.faults }
     {
         let opened = match file.opened.take() {
             Some(opened) => opened,
@@ -362,7 +362,7 @@ where
     }
 
     fn sync_names(&mut self) -> Result<(), FolderRefusal>
-        ensures noted { Notes (is_fault result) self.old.faults self.new.faults }
+        ensures noted { NotesFault (is_fault result) self.old.faults self.new.faults }
     {
         if self.sync_failed {
             return Err(self.fault_of_sync(not_again()));
@@ -405,7 +405,7 @@ where
     ) -> Result<usize, FolderRefusal>
         ensures bound { IfOk result (λ count. count ≤ length into.new) }
         ensures name { file.new.name ≡ file.old.name }
-        ensures noted { Notes (is_fault result) self.old.faults self.new.faults }
+        ensures noted { NotesFault (is_fault result) self.old.faults self.new.faults }
     {
         let opened = match file.opened.take() {
             Some(opened) => opened,
@@ -422,7 +422,7 @@ where
     }
 
     fn remove(&mut self, file: RealFile<R::File>) -> Result<(), RemoveRefusal<RealFile<R::File>>>
-        ensures noted { Notes (is_remove_fault result) self.old.faults self.new.faults }
+        ensures noted { NotesFault (is_remove_fault result) self.old.faults self.new.faults }
     {
         let Ok(path) = path_of(&self.path, file.name) else {
             return Err(RemoveRefusal::Memory(file));

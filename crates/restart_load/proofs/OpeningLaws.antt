@@ -15,7 +15,7 @@ use Rattle.partition_writer.specs.Standing.{Standing}
 use Rattle.partition_writer.specs.WriterViews.{standing}
 use Rattle.record_replay.specs.declared.play.Replayed.{Replayed}
 use Rattle.restart_load.specs.Opening.{AreOpened, HasNoFile, IsOpened}
-use Rattle.restart_load.specs.Taking.{IsKept}
+use Rattle.restart_load.specs.Taking.{IsPortKept}
 use Rattle.restart_load.specs.Writers.{EachIs, standings}
 
 -- ---- lists
@@ -151,17 +151,17 @@ given_back_joined a b new given given' joins = record {
 
 -- ---- the port keeps its files
 
-pub kept_itself : (port : Port) → IsGivenBack port → IsKept port port
+pub kept_itself : (port : Port) → IsGivenBack port → IsPortKept port port
 kept_itself port given = record { given_back = given; held = λ n. refl }
 
-pub kept_after : (a b c : Port) → IsKept a b → IsKept b c → IsKept a c
+pub kept_after : (a b c : Port) → IsPortKept a b → IsPortKept b c → IsPortKept a c
 kept_after a b c first second = record { given_back = second.given_back; held = λ n. second.held n ∙ first.held n }
 
-pub kept_same : (old new : Port) → SamePort old new → IsGivenBack old → IsKept old new
+pub kept_same : (old new : Port) → SamePort old new → IsGivenBack old → IsPortKept old new
 kept_same old new same given = record { given_back = given_back_same old new same given; held = same.held }
 
 -- the port that joined it had no file
-pub kept_joined : (a b new : Port) → IsGivenBack a → IsGivenBack b → ((name : ChunkName) → b.held name ≡ None) → Joins a b new → IsKept a new
+pub kept_joined : (a b new : Port) → IsGivenBack a → IsGivenBack b → ((name : ChunkName) → b.held name ≡ None) → Joins a b new → IsPortKept a new
 kept_joined a b new given given' none joins = record {
   given_back = given_back_joined a b new given given' joins;
   held = λ n. joins.held n ∙ either_same (a.held n) (b.held n) (none n);

@@ -3,7 +3,7 @@
 ghost use Rattle.std.specs.Prelude.{◌≡◌, ◌<◌, ◌⊎◌, ◌∷◌, ℕ, List, length, Err, IfOk, MatchResult};
 ghost use Rattle.hr_base.specs.LimitRanges.{IsPartitionCount};
 ghost use Rattle.script_text.specs.declared.line.Line.{Line};
-ghost use Rattle.script_text.specs.Lines.{IsScript, IsFirstBad, texts_of};
+ghost use Rattle.script_text.specs.Lines.{IsScript, IsFirstBad, line_texts};
 
 use crate::line::{Line, Mode};
 use crate::read::{owned, read_line};
@@ -89,7 +89,7 @@ pub fn read_script(
 // The text of the first line, and the bytes behind its end.
 fn first_text(bytes: &[u8]) -> (&[u8], &[u8])
     requires { 0 < length bytes.now }
-    ensures split { texts_of bytes.now ≡ result.0.now ∷ texts_of result.1.now }
+    ensures split { line_texts bytes.now ≡ result.0.now ∷ line_texts result.1.now }
     ensures shorter { length result.1.now < length bytes.now }
 {
     match memchr(b'\n', bytes) {

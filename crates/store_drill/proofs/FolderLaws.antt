@@ -33,10 +33,10 @@ use Rattle.restart_load.specs.declared.ended.Ended.{Ended}
 use Rattle.restart_load.specs.declared.ended.Ended.TheVariants.{Load}
 use Rattle.hr_base.specs.declared.limits.Limits.{Limits}
 use Rattle.store_drill.specs.Accounts.{accounts_at}
-use Rattle.store_drill.specs.Numbers.{Start, numbers_at}
+use Rattle.store_drill.specs.Numbers.{SessionStart, numbers_at}
 use Rattle.store_drill.specs.Playing.{Played}
 use Rattle.store_drill.specs.Sessions.{IsRefusal, IsStart, NotBegun, Outside, Ran, Session}
-use Rattle.store_drill.specs.Writers.{EachFits, HasMaps, HasNumber, HaveStart, IsApart, IsLimited, IsWhole, OwnsFiles, StandsAt, faults_of, files_at, files_in, numbers_of}
+use Rattle.store_drill.specs.Writers.{EachFits, HasMaps, HasNumber, HaveStart, IsApart, IsLimited, LostNothing, OwnsFiles, StandsAt, faults_of, files_at, files_in, numbers_of}
 use Rattle.store_drill.proofs.StepLaws.{none_unless, same_numbers}
 use Rattle.store_drill.proofs.WriterListLaws.{get_at_end}
 
@@ -175,7 +175,7 @@ next_chunk_in None = 1
 next_chunk_in (Some s) = s.next_chunk
 
 -- what each partition begins with
-abbrev pub started : List Standing → Start
+abbrev pub started : List Standing → SessionStart
 started writers = record {
   maps = λ p. maps_in (slice_get writers p);
   next = λ p. next_in (slice_get writers p);
@@ -183,7 +183,7 @@ started writers = record {
 }
 
 -- and the same, over these files
-abbrev pub begins_of : Image → Start → ℕ → Beginning
+abbrev pub begins_of : Image → SessionStart → ℕ → Beginning
 begins_of image start p = record { found = image; maps = start.maps p; first = start.next p; first_chunk = start.next_chunk p }
 
 pub have_maps : (writers : List Standing) → EachFits HasMaps writers (started writers).maps
@@ -268,7 +268,7 @@ either_of : (a b : Option FileState) (file : FileState) → either_file a b ≡ 
 either_of None b file is = inr is
 either_of (Some f) b file is = inl is
 
-module _ (old : Port) (start : Start) (writers : List Standing) (accounts : ℕ → Account)
+module _ (old : Port) (start : SessionStart) (writers : List Standing) (accounts : ℕ → Account)
     (each : EachFits (StandsAt (begins_of (read_of old) start)) writers accounts) where
   -- the files of each writer are of its partition
   pub all_own : EachIs OwnsFiles writers
@@ -320,7 +320,7 @@ module _ (old : Port) (start : Start) (writers : List Standing) (accounts : ℕ 
         all_survive port.held port.gone partitions accounts known (λ name file is. absurd (no_some (port.gone name) file (given_back.gone name) is))
         (λ p below. let one = one_at p below in survives_at p one.0 one.1)
 
-    pub all_read : EachIs IsWhole writers → AllRestart (read_of port) partitions (λ p. (accounts p).maps)
+    pub all_read : EachIs LostNothing writers → AllRestart (read_of port) partitions (λ p. (accounts p).maps)
     all_read whole =
         all_restart (read_of port) partitions (λ p. (accounts p).maps) (λ name bytes is. let from = read_from (port.held name) bytes is in known name from.0 from.1)
         (λ p below. let one = one_at p below in restarts_at p one.0 one.1 (whole p one.0 one.1))
@@ -343,7 +343,7 @@ pub session_ran : (tells : Bool) (limits : Limits) (lines : List Line) (begun wr
     → (tells ≡ true → IsGivenBack new.port) → (tells ≡ true → (name : ChunkName) → new.port.held name ≡ either_file (old.port.held name) (files_at writers name))
     → Session tells limits lines old new ended
 session_ran tells limits lines begun writers old new ended all limited parts restartable rest played same given_back held =
-    let start : Start = started begun in
+    let start : SessionStart = started begun in
     let have : HaveStart limits begun start = have_started tells (read_of old.port) limits begun all limited in
     let accounts : ℕ → Account = accounts_at ended lines played.count (λ p. fresh_account (start.maps p)) in
     record {

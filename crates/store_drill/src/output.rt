@@ -2,7 +2,7 @@
 
 ghost use Rattle.std.specs.Prelude.{◌≡◌, ◌<◌, ◌≤◌, IfOk, OnOk, OnErr, length, take};
 ghost use Rattle.hr_base.specs.Counts.{Rose};
-ghost use Rattle.hr_edges.specs.Edges.{StaysUntold, Takes, TakesFront};
+ghost use Rattle.hr_edges.specs.Edges.{StaysUntold, TakesAll, TakesFront};
 
 use hr_edges::{Failed, Sink};
 
@@ -11,7 +11,7 @@ fn write_some<K: Sink>(out: &mut K, piece: &[u8]) -> Result<usize, Failed>
     requires { 0 < length piece.now }
     ensures some { IfOk result (λ n. 0 < n) }
     ensures within { IfOk result (λ n. n ≤ length piece.now) }
-    ensures ok { IfOk result (λ n. Takes (K.taken out.old) (K.taken out.new) (take n piece.now)) }
+    ensures ok { IfOk result (λ n. TakesAll (K.taken out.old) (K.taken out.new) (take n piece.now)) }
     ensures err { OnErr result (TakesFront (K.taken out.old) (K.taken out.new) piece.now) }
     ensures untold { StaysUntold (K.taken out.old) (K.taken out.new) }
     ensures fault { OnErr result (Rose (K.count out.old) (K.count out.new)) }
@@ -26,7 +26,7 @@ fn write_some<K: Sink>(out: &mut K, piece: &[u8]) -> Result<usize, Failed>
 
 /// Writes all of a piece.
 pub fn write_all<K: Sink>(out: &mut K, piece: &[u8]) -> Result<(), Failed>
-    ensures ok { OnOk result (Takes (K.taken out.old) (K.taken out.new) piece.now) }
+    ensures ok { OnOk result (TakesAll (K.taken out.old) (K.taken out.new) piece.now) }
     ensures err { OnErr result (TakesFront (K.taken out.old) (K.taken out.new) piece.now) }
     ensures untold { StaysUntold (K.taken out.old) (K.taken out.new) }
     ensures fault { OnErr result (Rose (K.count out.old) (K.count out.new)) }

@@ -1,0 +1,14 @@
+//! The top call of the program: what the command words say, done over a folder, a source and a sink.
+#![tactic(auto)]
+
+mod input;
+mod outcome;
+mod script;
+mod serve;
+mod telling;
+#[cfg(test)]
+mod tests;
+
+pub use outcome::Outcome;
+pub use serve::serve;
+pub use telling::tell;
