@@ -4,11 +4,11 @@
 mod input;
 mod outcome;
 mod script;
-mod serve;
+mod serving;
 mod telling;
 #[cfg(test)]
 mod tests;
 
 pub use outcome::Outcome;
-pub use serve::serve;
+pub use serving::serve;
 pub use telling::tell;

@@ -10,7 +10,7 @@ use Rattle.store_serve.specs.declared.outcome.Outcome.{Outcome}
 use Rattle.store_serve.specs.Ends.{outcome_of_words}
 use Rattle.store_serve.specs.Scripts.{IsUnfit}
 use Rattle.store_serve.specs.Served.{IsNoCommand, IsRefusedWords}
-use Rattle.store_serve.proofs.serve.run.Goals as goal
+use Rattle.store_serve.proofs.serving.run.Goals as goal
 
 pub returns-in-Ok-Play-clause-spared : goal.returns-in-Ok-Play-clause-spared
 returns-in-Ok-Play-clause-spared g c limits meaning unfit =

@@ -9,7 +9,7 @@ use Rattle.store_serve.proofs.Meanings.{means_this, rose_earlier, rose_later}
 use Rattle.store_serve.proofs.Outcomes.{all_done, disk_told, early_told, input_told, wordless_told, spends_told, words_told, wrong_told}
 use Rattle.store_serve.proofs.Refusals.{fit_refused, refused_told, unfit_told, unloadable_told}
 use Rattle.store_serve.proofs.Spendings.{spends_fit, spends_restarts, spends_undone}
-use Rattle.store_serve.proofs.serve.serve.Goals as goal
+use Rattle.store_serve.proofs.serving.serve.Goals as goal
 
 pub returns-clause-whole : goal.returns-clause-whole
 returns-clause-whole g c e = done_told _ _ _ _ _ _ _ c.run-outcome.ensures.because c.tell.ensures.told e
