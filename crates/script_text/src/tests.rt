@@ -2,7 +2,9 @@
 
 ghost use Rattle.hr_base.specs.LimitRanges.{IsPartitionCount};
 
-use crate::{Line, Mode, Reply, ScriptRefusal, print_entry, print_line, print_reply, read_script};
+use crate::{
+    Line, LineView, Mode, Reply, ScriptRefusal, print_entry, print_line, print_reply, read_script,
+};
 use bytes::Bytes;
 use hr_base::{MAX_KEY_LEN, MAX_VALUE_LEN, Memory, Partition};
 use std::alloc::{AllocError, Global};
@@ -74,15 +76,62 @@ fn forms(alloc: Global) -> Result<[Row; 6], AllocError> {
     ])
 }
 
+// Whether a view shows this line.
+fn shows(view: LineView, line: &Line) -> bool {
+    match (view, line) {
+        (
+            LineView::Put {
+                p,
+                prefix,
+                key,
+                value,
+            },
+            Line::Put {
+                p: q,
+                prefix: other,
+                key: name,
+                value: content,
+            },
+        ) => {
+            p == *q && prefix == *other && key == name.as_slice() && value == content.as_slice()
+        }
+        (
+            LineView::Remove { p, prefix, key },
+            Line::Remove {
+                p: q,
+                prefix: other,
+                key: name,
+            },
+        )
+        | (
+            LineView::Get { p, prefix, key },
+            Line::Get {
+                p: q,
+                prefix: other,
+                key: name,
+            },
+        ) => p == *q && prefix == *other && key == name.as_slice(),
+        (
+            LineView::Clear { p, prefix },
+            Line::Clear {
+                p: q,
+                prefix: other,
+            },
+        ) => p == *q && prefix == *other,
+        (LineView::Sync { p }, Line::Sync { p: q }) => p == *q,
+        _ => false,
+    }
+}
+
 // Ends the test unless the bytes are a script of this line in each mode.
 fn assert_reads(rt: &impl Abort, alloc: Global, bytes: &[u8], row: &Row) -> Result<(), Fail> {
     for mode in [Mode::Play, Mode::Drill, Mode::Run] {
-        let script = read_script(alloc, bytes, mode, 64)?;
+        let script = read_script(bytes.to_vec(alloc)?, mode, 64)?;
         let name = row.name;
-        match script.lines() {
-            [line] => assert!(rt; *line == row.line, "{name}"),
-            _ => assert!(rt; false, "{name}"),
-        }
+        let mut lines = script.lines(alloc)?;
+        assert!(rt; lines.advance(), "{name}");
+        assert!(rt; shows(lines.line(), &row.line), "{name}");
+        assert!(rt; !lines.advance(), "{name}");
     }
     Ok(())
 }
@@ -118,15 +167,17 @@ fn reads_lines_in_order(rt: HostRuntime) -> Result<(), Fail> {
         ),
     ];
     for (name, text, count) in rows {
-        let script = read_script(rt.alloc(), text, Mode::Play, 64)?;
-        assert_eq!(rt; script.lines().len(), count, "{name}");
-        if let [_, second, _] = script.lines() {
-            let clear = Line::Clear {
+        let script = read_script(text.to_vec(rt.alloc())?, Mode::Play, 64)?;
+        let mut lines = script.lines(rt.alloc())?;
+        for at in 0..count {
+            assert!(rt; lines.advance(), "{name}");
+            let clear = LineView::Clear {
                 p: Partition(63),
                 prefix: 9,
             };
-            assert!(rt; *second == clear, "{name}");
+            assert!(rt; at != 1 || lines.line() == clear, "{name}");
         }
+        assert!(rt; !lines.advance(), "{name}");
     }
     Ok(())
 }
@@ -153,9 +204,11 @@ fn spells_bytes(rt: HostRuntime) -> Result<(), Fail> {
         assert!(rt; reply.as_slice() == expected.as_slice(), "{name}");
         let mut line = Vec::from_slice(rt.alloc(), b"0 get 1 ")?;
         line.extend_from_slice(text)?;
-        let script = read_script(rt.alloc(), line.as_slice(), Mode::Run, 1)?;
-        match script.lines() {
-            [Line::Get { key, .. }] => assert!(rt; key.as_slice() == bytes, "{name}"),
+        let script = read_script(line, Mode::Run, 1)?;
+        let mut lines = script.lines(rt.alloc())?;
+        assert!(rt; lines.advance(), "{name}");
+        match lines.line() {
+            LineView::Get { key, .. } => assert!(rt; key == bytes, "{name}"),
             _ => assert!(rt; false, "{name}"),
         }
     }
@@ -166,7 +219,7 @@ fn spells_bytes(rt: HostRuntime) -> Result<(), Fail> {
 fn refused_at(alloc: Global, text: &[u8], partitions: u8) -> Result<Option<u64>, Memory>
     requires { IsPartitionCount partitions }
 {
-    match read_script(alloc, text, Mode::Play, partitions) {
+    match read_script(text.to_vec(alloc)?, Mode::Play, partitions) {
         Ok(_script) => Ok(None),
         Err(ScriptRefusal::Line { number }) => Ok(Some(number)),
         Err(ScriptRefusal::Memory) => Err(Memory),

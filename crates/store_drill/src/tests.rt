@@ -69,9 +69,13 @@ fn check_session(
 {
     let alloc = rt.alloc();
     let (script, replies, text) = session;
-    let script = read_script(alloc, script.as_bytes(), Mode::Play, LIMITS.partitions)?;
+    let script = read_script(
+        script.as_bytes().to_vec(alloc)?,
+        Mode::Play,
+        LIMITS.partitions,
+    )?;
     let mut out = MemSink::new(alloc, 1_000, Vec::new(alloc))?;
-    let ended = play(alloc, script.lines(), &LIMITS, folder, &mut out);
+    let ended = play(alloc, &script, &LIMITS, folder, &mut out);
     assert_eq!(rt; ended, Ended::Whole);
     assert_eq!(rt; out.taken(), replies.as_bytes());
     check_dump(rt, folder, Ended::Whole, text)
@@ -96,11 +100,15 @@ fn a_folder_that_does_not_restart_is_not_touched(rt: HostRuntime) -> Result<(), 
     let mut files = Vec::new(alloc);
     files.push((name, b"some bytes".to_vec(alloc)?))?;
     let mut folder = MemFolder::of(alloc, files, Vec::new(alloc))?;
-    let script = read_script(alloc, b"0 put 5 k v\n", Mode::Play, LIMITS.partitions)?;
+    let script = read_script(
+        b"0 put 5 k v\n".to_vec(alloc)?,
+        Mode::Play,
+        LIMITS.partitions,
+    )?;
     let mut out = MemSink::new(alloc, 1_000, Vec::new(alloc))?;
     let ended = Ended::Load(RestartRefusal::Partition { name });
     assert_eq!(rt;
-        play(alloc, script.lines(), &LIMITS, &mut folder, &mut out),
+        play(alloc, &script, &LIMITS, &mut folder, &mut out),
         ended
     );
     assert!(rt; out.taken().is_empty());
