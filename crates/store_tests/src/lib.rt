@@ -1,0 +1,21 @@
+//! The tests of all crates: what neither a contract nor a row of the program over a real folder shows.
+#![tactic(auto)]
+
+#[cfg(test)]
+mod disk;
+#[cfg(test)]
+mod drawn;
+#[cfg(test)]
+mod expecting;
+#[cfg(test)]
+mod folders;
+#[cfg(test)]
+mod maps;
+#[cfg(test)]
+mod restarts;
+#[cfg(test)]
+mod sessions;
+#[cfg(test)]
+mod stops;
+#[cfg(test)]
+mod words;
