@@ -150,12 +150,7 @@ impl Disk {
     }
 }
 
-fn push_copy(
-    alloc: Global,
-    disk: &Disk,
-    name: ChunkName,
-    files: &mut Vec<File>,
-) -> Result<(), Fail>
+fn push_copy(alloc: Global, disk: &Disk, name: ChunkName, files: &mut Vec<File>) -> Result<(), Fail>
     requires { All (λ file. IsChunkName file.0) files.old.items }
     ensures { OnOk result (All (λ file. IsChunkName file.0) files.new.items) }
 {

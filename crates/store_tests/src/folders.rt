@@ -69,6 +69,7 @@ create p03-v-7
 append abc
 !sync
 names
+mark
 give
 crash least
 holds p03-v-7
@@ -79,6 +80,7 @@ append abc
 sync
 append de
 names
+mark
 give
 holds p03-v-7 abcde
 crash least

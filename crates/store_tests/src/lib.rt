@@ -2,9 +2,13 @@
 #![tactic(auto)]
 
 #[cfg(test)]
+mod chunks;
+#[cfg(test)]
 mod disk;
 #[cfg(test)]
 mod drawn;
+#[cfg(test)]
+mod edges;
 #[cfg(test)]
 mod expecting;
 #[cfg(test)]
@@ -18,4 +22,8 @@ mod sessions;
 #[cfg(test)]
 mod stops;
 #[cfg(test)]
+mod texts;
+#[cfg(test)]
 mod words;
+#[cfg(test)]
+mod writers;

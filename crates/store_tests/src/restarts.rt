@@ -97,7 +97,8 @@ impl Found {
         }
         let after = root_call(CALLS.saturating_add(1), true);
         let mut disk = self.disk.copied(self.alloc, after)?;
-        disk.run(self.alloc, text, SCRIPT)?.expect(text, 0, printed)?;
+        disk.run(self.alloc, text, SCRIPT)?
+            .expect(text, 0, printed)?;
         expect(disk.faults() == 0, text)
     }
 }

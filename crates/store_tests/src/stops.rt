@@ -215,5 +215,8 @@ fn each_call_of_the_root_and_a_first_writer_may_fail(rt: HostRuntime) -> Result<
 fn each_call_of_a_second_writer_may_fail(rt: HostRuntime) -> Result<(), Fail> {
     let session = Session::new(rt.alloc())?;
     let calls = session.check_calls(2)?;
-    expect(calls > CLEARINGS.saturating_mul(2), "calls of a second writer")
+    expect(
+        calls > CLEARINGS.saturating_mul(2),
+        "calls of a second writer",
+    )
 }

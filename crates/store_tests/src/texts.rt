@@ -45,7 +45,16 @@ const NO_NAMES: [&str; 9] = [
 /// Texts that are numbers, and then texts that are none.
 const NUMBERS: [&str; 5] = ["0", "7", "10", "4294967296", "18446744073709551615"];
 
-const NO_NUMBERS: [&str; 8] = ["", "00", "07", "+7", "-7", "7 ", "0x7", "18446744073709551616"];
+const NO_NUMBERS: [&str; 8] = [
+    "",
+    "00",
+    "07",
+    "+7",
+    "-7",
+    "7 ",
+    "0x7",
+    "18446744073709551616",
+];
 
 /// Rows of a class, bytes, and what they are decoded to. In the bytes a point stands for a zero, and `%` and two digits
 /// for a byte.
@@ -96,7 +105,11 @@ fn texts_are_read_and_printed(rt: HostRuntime) -> Result<(), Fail> {
     }
     for text in NUMBERS {
         let number = read_decimal(text.as_bytes()).ok_or(text)?;
-        expect_text(format!(in rt.alloc(); "{number}")?.as_bytes(), text.as_bytes(), text)?;
+        expect_text(
+            format!(in rt.alloc(); "{number}")?.as_bytes(),
+            text.as_bytes(),
+            text,
+        )?;
     }
     for text in NO_NUMBERS {
         expect(read_decimal(text.as_bytes()).is_none(), text)?;
@@ -130,20 +143,23 @@ fn bytes_of(alloc: Global, text: &str) -> Result<Vec<u8>, Fail> {
     Ok(bytes)
 }
 
-/// Compares what bytes are decoded to. No shorter front of a whole record is whole.
+/// What bytes are decoded to.
+fn step_of(alloc: Global, bytes: &[u8], class: Class) -> Result<String, Fail> {
+    Ok(format!(in alloc; "{:?}", decode(bytes, class))?)
+}
+
+/// Compares what bytes are decoded to. Each front of them is torn, or is decoded to the same.
 fn check_step(alloc: Global, row: &str) -> Result<(), Fail> {
     let mut words = row.splitn(3, ' ');
     let class = class_of(words.next().unwrap_or(""));
     let bytes = bytes_of(alloc, words.next().unwrap_or(""))?;
     let wanted = words.next().unwrap_or("");
-    let step = format!(in alloc; "{:?}", decode(bytes.as_slice(), class))?;
+    let step = step_of(alloc, bytes.as_slice(), class)?;
     expect_text(step.as_bytes(), wanted.as_bytes(), row)?;
     for cut in 0..bytes.len() {
         let front = bytes.get(..cut).ok_or("no front")?;
-        let step = format!(in alloc; "{:?}", decode(front, class))?;
-        let torn = step.as_str() == "Torn";
-        let header = if class == Class::Value { 24 } else { 20 };
-        expect(torn || cut >= header, row)?;
+        let step = step_of(alloc, front, class)?;
+        expect(step.as_str() == "Torn" || step.as_str() == wanted, row)?;
     }
     Ok(())
 }

@@ -66,7 +66,7 @@ next: 10
 sync: synced 9
 sync: synced 9
 entries: 2 a y;2 b new;7 b again;18446744073709551615 a max;",
-        lengths: "p03-v-1 189 p03-t-2 22 p03-x-3 16",
+        lengths: "p03-v-1 197 p03-t-2 22 p03-x-3 16",
     },
     Row {
         name: "a writer halts where the disk fails",
@@ -153,10 +153,7 @@ fn tell_refusal(told: &mut String, refusal: WriteRefusal) -> Result<(), Fail> {
 }
 
 /// Writes the value before a change, or why it was refused.
-fn tell_change(
-    told: &mut String,
-    answer: Result<Option<Bytes>, WriteRefusal>,
-) -> Result<(), Fail> {
+fn tell_change(told: &mut String, answer: Result<Option<Bytes>, WriteRefusal>) -> Result<(), Fail> {
     match answer {
         Ok(before) => tell_value(told, "was", before.as_ref()),
         Err(refusal) => tell_refusal(told, refusal),
@@ -248,7 +245,9 @@ fn check_row(alloc: Global, row: &Row) -> Result<(), Fail> {
     let mut words = row.lengths.split(' ');
     while let Some(short) = words.next() {
         let length = words.next().unwrap_or("-");
-        let found = folder.bytes(name_of(alloc, short)?).map(|bytes| bytes.len());
+        let found = folder
+            .bytes(name_of(alloc, short)?)
+            .map(|bytes| bytes.len());
         let wanted = if length == "-" {
             None
         } else {
