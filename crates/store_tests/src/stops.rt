@@ -53,7 +53,14 @@ const MORE: &str = "\
 1 get 1 a
 ";
 
-const PICKS: [Pick; 3] = [Pick::Least, Pick::Most, Pick::Mix(1)];
+/// How a call fails after it failed alone and the least was left: whether all after it fail too, and the pick of the crash.
+const AGAIN: [(bool, Pick); 5] = [
+    (false, Pick::Most),
+    (false, Pick::Mix(1)),
+    (true, Pick::Least),
+    (true, Pick::Most),
+    (true, Pick::Mix(1)),
+];
 
 /// The script, with a sync of partition 1 once in a while.
 fn script(alloc: Global) -> Result<String, Fail> {
@@ -154,8 +161,8 @@ impl Session {
             goes_on: false,
         };
         let first = self.check_stop(alone, Pick::Least)?;
-        for pick in PICKS {
-            for goes_on in [false, true] {
+        if first.is_some() {
+            for (goes_on, pick) in AGAIN {
                 let again = self.check_stop(Stop { goes_on, ..alone }, pick)?;
                 expect(again == first, "as many lines")?;
             }
