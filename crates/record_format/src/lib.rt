@@ -5,8 +5,6 @@ mod header;
 mod laws;
 mod reading;
 mod record;
-#[cfg(test)]
-mod tests;
 
 pub use laws::{
     a_prefix_splits, a_step_stays, damaged_bytes_spell_none, first_record_splits_off,

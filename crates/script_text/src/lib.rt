@@ -9,8 +9,6 @@ mod print;
 mod read;
 mod reply;
 mod script;
-#[cfg(test)]
-mod tests;
 mod text;
 
 pub use entry::print_entry;
