@@ -125,11 +125,10 @@ impl Bench {
             }
             _ => {
                 let file = self.file.take();
-                let disk = match &mut self.fork {
-                    Some(fork) => fork,
-                    None => &mut self.root,
+                self.file = match &mut self.fork {
+                    Some(fork) => call_at(&self.system, fork, file, call),
+                    None => call_at(&self.system, &mut self.root, file, call),
                 };
-                self.file = call_at(&self.system, disk, file, call);
             }
         }
         Ok(())
