@@ -7,6 +7,7 @@ use hr_base::{ChunkName, ChunkNo, Kind, Partition};
 use real_folder::{RealFile, RealFolder};
 use std::alloc::AllocError;
 use std::process::Abort;
+use std::rt::Files;
 use std::test::Fail;
 use std::{env, fs, io, process};
 
@@ -422,6 +423,8 @@ fn a_file_is_written_found_read_and_removed(rt: HostRuntime) -> Result<(), Fail>
     expect_names(&rt, &mut disk, &[NAME])?;
     let before = count_open(&rt)?;
     let file = read_nine_and_add(&rt, &mut disk)?;
+    handle_goes(&file);
+    port_goes(&disk);
     assert_eq!(rt; count_open(&rt)?, before.saturating_add(1), "an open file");
     let bytes = fs::read(&rt, path_in(&rt, &path, FILE)?)?;
     assert_eq!(rt; bytes.as_slice(), b"five six!?".as_slice());
@@ -434,6 +437,21 @@ fn a_file_is_written_found_read_and_removed(rt: HostRuntime) -> Result<(), Fail>
     assert_eq!(rt; fs::read_dir(&rt, path.as_str())?.count(), 3, "other files");
     fs::remove_dir_all(&rt, path)?;
     Ok(())
+}
+
+fn goes_to_a_thread<T: Send>(_it: &T) {}
+
+/// A handle may go to another thread, where a file may.
+fn handle_goes<F: Send>(file: &RealFile<F>) {
+    goes_to_a_thread(file);
+}
+
+/// So may a port, where the runtime may, and files may be shared.
+fn port_goes<R: Files + Send>(port: &RealFolder<R>)
+where
+    R::File: Send + Sync,
+{
+    goes_to_a_thread(port);
 }
 
 #[test]
