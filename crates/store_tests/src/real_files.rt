@@ -1,11 +1,15 @@
 //! A folder on a disk: which calls of the system its calls make, and what they make of real files. Helpers promise
 //! nothing.
 
+ghost use Rattle.std.specs.Prelude.{◌≡◌, false};
+ghost use Rattle.hr_base.specs.Names.{IsChunkName};
+
 use crate::watched::{Handle, System};
 use dir_files::{Folder, FolderRefusal, RemoveRefusal};
-use hr_base::{ChunkName, ChunkNo, Kind, Partition};
-use real_folder::{RealFile, RealFolder};
-use std::alloc::AllocError;
+use hr_base::{ChunkName, ChunkNo, Kind, Memory, Partition};
+use real_folder::{LockFile, RealFile, RealFolder};
+use std::alloc::{AllocError, Global};
+use std::os::unix::fs::FileExt;
 use std::process::Abort;
 use std::rt::Files;
 use std::test::Fail;
@@ -19,11 +23,146 @@ const NAME: ChunkName = ChunkName {
 
 const FILE: &str = "p03-v-0000000000000007.chunk";
 
+// ---- one call each
+
+fn take<F: Folder>(disk: &mut F) -> Result<F::File, FolderRefusal>
+    requires { F.tells ≡ false }
+{
+    disk.take(NAME)
+}
+
+fn create<F: Folder>(disk: &mut F) -> Result<F::File, FolderRefusal>
+    requires { F.tells ≡ false }
+{
+    disk.create(NAME)
+}
+
+fn append<F: Folder>(disk: &mut F, file: &mut F::File, piece: &[u8]) -> Result<(), FolderRefusal> {
+    disk.append(file, piece)
+}
+
+fn sync_file<F: Folder>(disk: &mut F, file: &mut F::File) -> Result<(), FolderRefusal> {
+    disk.sync_file(file)
+}
+
+fn sync_names<F: Folder>(disk: &mut F) -> Result<(), FolderRefusal> {
+    disk.sync_names()
+}
+
+fn names<F: Folder>(disk: &mut F) -> Result<Vec<ChunkName>, FolderRefusal> {
+    disk.names()
+}
+
+fn mark<F: Folder>(disk: &F, file: &mut F::File) -> bool {
+    disk.mark(file)
+}
+
+/// Reads four bytes at most.
+fn read<F: Folder>(
+    disk: &mut F,
+    file: &mut F::File,
+    at: u64,
+) -> Result<([u8; 4], usize), FolderRefusal> {
+    let mut buffer = [0u8; 4];
+    let count = disk.read(file, at, &mut buffer)?;
+    Ok((buffer, count))
+}
+
+/// Removes a file, and gives a handle that came back.
+fn remove<F: Folder>(disk: &mut F, file: F::File) -> Result<Option<F::File>, FolderRefusal> {
+    match disk.remove(file) {
+        Ok(()) => Ok(None),
+        Err(RemoveRefusal::Memory(file)) => Ok(Some(file)),
+        Err(RemoveRefusal::Fault) => Err(FolderRefusal::Fault),
+    }
+}
+
+fn give<F: Folder>(disk: &mut F, file: F::File) {
+    disk.give(file);
+}
+
+fn fork<F: Folder>(disk: &mut F) -> Result<F, Memory> {
+    disk.fork()
+}
+
+fn adopt<F: Folder>(disk: &mut F, other: F)
+    requires { F.tells ≡ false }
+{
+    disk.adopt(other);
+}
+
+/// What a port tells of its faults: how often the disk failed, and how it did first.
+fn faults_of<R: Files + Alloc + Clone + Drop>(
+    alloc: Global,
+    disk: &RealFolder<R>,
+) -> Result<String, AllocError>
+where
+    R::File: FileExt + LockFile,
+{
+    match disk.first_error() {
+        Some(error) => format!(in alloc; "{} {error}", disk.faults()),
+        None => format!(in alloc; "{}", disk.faults()),
+    }
+}
+
 // ---- the calls of the system
 
 type Watched = RealFolder<System>;
 
-/// A root, a fork of it where one was made, and a handle.
+#[derive(Clone, Copy)]
+enum Call {
+    Take,
+    Create,
+    Append,
+    Sync,
+    Read,
+    Mark,
+    Give,
+    Remove,
+    Names,
+    List,
+    Fork,
+    Adopt,
+    /// How often the disk failed, and how it did first.
+    Faults,
+    /// From here on the system refuses this call of its own, and no other.
+    Refuse(&'static str),
+}
+
+const CALLS: [(&str, Call); 21] = [
+    ("take", Call::Take),
+    ("create", Call::Create),
+    ("append", Call::Append),
+    ("sync", Call::Sync),
+    ("read", Call::Read),
+    ("mark", Call::Mark),
+    ("give", Call::Give),
+    ("remove", Call::Remove),
+    ("names", Call::Names),
+    ("list", Call::List),
+    ("fork", Call::Fork),
+    ("adopt", Call::Adopt),
+    ("faults", Call::Faults),
+    ("-none", Call::Refuse("")),
+    ("-open", Call::Refuse("open")),
+    ("-lock", Call::Refuse("lock")),
+    ("-new", Call::Refuse("new")),
+    ("-write", Call::Refuse("write")),
+    ("-fdatasync", Call::Refuse("fdatasync")),
+    ("-fsync", Call::Refuse("fsync")),
+    ("-unlink", Call::Refuse("unlink")),
+];
+
+fn call_named(word: &str) -> Option<Call> {
+    for (name, call) in CALLS {
+        if name == word {
+            return Some(call);
+        }
+    }
+    None
+}
+
+/// A root, the last fork, and a handle.
 #[derive(Drop)]
 struct Bench {
     system: System,
@@ -32,6 +171,7 @@ struct Bench {
     file: Option<RealFile<Handle>>,
 }
 
+/// Writes down a refusal.
 fn told<T: Drop>(system: &System, answer: Result<T, FolderRefusal>) -> Option<T> {
     match answer {
         Ok(value) => Some(value),
@@ -46,60 +186,58 @@ fn told<T: Drop>(system: &System, answer: Result<T, FolderRefusal>) -> Option<T>
     }
 }
 
-fn remove(
-    disk: &mut Watched,
-    file: RealFile<Handle>,
-) -> Result<(), RemoveRefusal<RealFile<Handle>>> {
-    disk.remove(file)
-}
-
 /// A call that has the handle.
-fn call_at_file(system: &System, disk: &mut Watched, file: &mut RealFile<Handle>, call: &str) {
-    let mut buffer = [0u8; 4];
+fn call_at_file(system: &System, disk: &mut Watched, file: &mut RealFile<Handle>, call: Call) {
     let answer = match call {
-        "append" => disk.append(file, b"bytes"),
-        "sync" => disk.sync_file(file),
-        "read" => disk.read(file, 0, &mut buffer).map(|_count| ()),
+        Call::Append => append(disk, file, b"bytes"),
+        Call::Sync => sync_file(disk, file),
+        Call::Read => read(disk, file, 0).map(|_read| ()),
+        Call::Mark => {
+            system.note(if mark(disk, file) { "FIXED" } else { "LOOSE" });
+            Ok(())
+        }
         _ => Ok(()),
     };
     told(system, answer);
 }
 
-/// A call of the folder itself, or one that takes the handle or gives one.
+/// A call that has no handle.
+fn call_at_folder(system: &System, disk: &mut Watched, call: Call) {
+    match call {
+        Call::Names => {
+            told(system, sync_names(disk));
+        }
+        Call::List => {
+            told(system, names(disk));
+        }
+        _ => {}
+    }
+}
+
+/// A call at a port, with the handle that is there before and afterwards.
 fn call_at(
     system: &System,
     disk: &mut Watched,
     file: Option<RealFile<Handle>>,
-    call: &str,
+    call: Call,
 ) -> Option<RealFile<Handle>> {
     match (call, file) {
-        ("create", _) => told(system, disk.create(NAME)),
-        ("take", _) => told(system, disk.take(NAME)),
-        ("give", Some(file)) => {
-            disk.give(file);
+        (Call::Create, _) => told(system, create(disk)),
+        (Call::Take, _) => told(system, take(disk)),
+        (Call::Give, Some(file)) => {
+            give(disk, file);
             None
         }
-        ("remove", Some(file)) => match remove(disk, file) {
-            Ok(()) => None,
-            Err(RemoveRefusal::Memory(file)) => Some(file),
-            Err(RemoveRefusal::Fault) => {
-                system.note("FAULT");
-                None
-            }
-        },
-        ("names", file) => {
-            told(system, disk.sync_names());
-            file
-        }
-        ("list", file) => {
-            told(system, disk.names());
-            file
-        }
+        (Call::Remove, Some(file)) => told(system, remove(disk, file)).flatten(),
         (call, Some(mut file)) => {
+            call_at_folder(system, disk, call);
             call_at_file(system, disk, &mut file, call);
             Some(file)
         }
-        (_, None) => None,
+        (call, None) => {
+            call_at_folder(system, disk, call);
+            None
+        }
     }
 }
 
@@ -115,19 +253,34 @@ impl Bench {
         })
     }
 
-    /// Makes one call: of the fork where there is one, and of the root otherwise.
-    fn call(&mut self, call: &str) -> Result<(), Fail> {
+    fn fork(&mut self) -> Result<(), Memory> {
+        let made = match &mut self.fork {
+            Some(port) => fork(port)?,
+            None => fork(&mut self.root)?,
+        };
+        self.fork = Some(made);
+        Ok(())
+    }
+
+    /// Makes one call: at the last fork where there is one, and at the root otherwise.
+    fn call(&mut self, call: Call) -> Result<(), Fail> {
         match call {
-            "fork" => self.fork = Some(self.root.fork()?),
-            "adopt" => {
-                if let Some(fork) = self.fork.take() {
-                    self.root.adopt(fork);
+            Call::Faults => {
+                let port = self.fork.as_ref().unwrap_or(&self.root);
+                self.system
+                    .note(faults_of(self.system.alloc(), port)?.as_str());
+            }
+            Call::Refuse(what) => self.system.refuse(what),
+            Call::Fork => self.fork()?,
+            Call::Adopt => {
+                if let Some(port) = self.fork.take() {
+                    adopt(&mut self.root, port);
                 }
             }
             _ => {
                 let file = self.file.take();
                 self.file = match &mut self.fork {
-                    Some(fork) => call_at(&self.system, fork, file, call),
+                    Some(port) => call_at(&self.system, port, file, call),
                     None => call_at(&self.system, &mut self.root, file, call),
                 };
             }
@@ -137,7 +290,7 @@ impl Bench {
 }
 
 /// The calls of a row, and what is written down then: after each call and `=` the calls of the system that it made, and
-/// `FAULT` where the disk refused it. From `-CALL` on, the system refuses this call of its own.
+/// what else it told.
 #[derive(Clone, Copy)]
 struct Row {
     name: &'static str,
@@ -148,24 +301,15 @@ struct Row {
 /// Makes a row's calls, and gives what was written down.
 fn play(rt: &impl AllocGlobal, calls: &str) -> Result<String, Fail> {
     let mut bench = Bench::new(rt)?;
-    for call in calls.split(' ') {
-        bench.system.note(call);
+    for word in calls.split(' ') {
+        bench.system.note(word);
         bench.system.note("=");
-        match call {
-            "-open" => bench.system.refuse("open"),
-            "-lock" => bench.system.refuse("lock"),
-            "-write" => bench.system.refuse("write"),
-            "-fdatasync" => bench.system.refuse("fdatasync"),
-            "-fsync" => bench.system.refuse("fsync"),
-            "-unlink" => bench.system.refuse("unlink"),
-            "-none" => bench.system.refuse(""),
-            _ => bench.call(call)?,
-        }
+        bench.call(call_named(word).ok_or("no call")?)?;
     }
     Ok(bench.system.told())
 }
 
-const ROWS: [Row; 13] = [
+const ROWS: [Row; 16] = [
     Row {
         name: "a root and a handle ask for nothing",
         calls: "take give",
@@ -231,6 +375,21 @@ const ROWS: [Row; 13] = [
         calls: "create -write append -unlink remove",
         wanted: " create = open lock new -write = append = write FAULT -unlink = remove = unlink close FAULT",
     },
+    Row {
+        name: "a name is fixed by a later sync of names at the same port",
+        calls: "names create mark names mark fork mark names mark fork mark names mark",
+        wanted: " names = open lock fsync create = new mark = LOOSE names = fsync mark = FIXED fork = mark = LOOSE names = fsync mark = FIXED fork = mark = LOOSE names = fsync mark = LOOSE",
+    },
+    Row {
+        name: "the first error is kept",
+        calls: "faults -new create faults -fsync names faults -none names faults",
+        wanted: " faults = 0 -new = create = open lock new FAULT faults = 1 create p03-v-0000000000000007.chunk: Input/output error (os error 5) -fsync = names = fsync FAULT faults = 2 create p03-v-0000000000000007.chunk: Input/output error (os error 5) -none = names = FAULT faults = 3 create p03-v-0000000000000007.chunk: Input/output error (os error 5)",
+    },
+    Row {
+        name: "the first error of a fork is kept where there is none",
+        calls: "fork faults -fsync names faults adopt faults names faults fork faults",
+        wanted: " fork = open lock faults = 0 -fsync = names = fsync FAULT faults = 1 sync maps: Input/output error (os error 5) adopt = faults = 1 sync maps: Input/output error (os error 5) names = FAULT faults = 2 sync maps: Input/output error (os error 5) fork = faults = 0",
+    },
 ];
 
 #[test]
@@ -253,15 +412,14 @@ fn count_closed(system: &System) -> usize {
 
 /// A file with a record, synced at a port.
 fn write_one(disk: &mut Watched) -> Result<RealFile<Handle>, FolderRefusal> {
-    let mut file = disk.create(NAME)?;
-    disk.append(&mut file, b"bytes")?;
-    disk.sync_file(&mut file)?;
+    let mut file = create(disk)?;
+    append_and_sync(disk, &mut file)?;
     Ok(file)
 }
 
 fn append_and_sync(disk: &mut Watched, file: &mut RealFile<Handle>) -> Result<(), FolderRefusal> {
-    disk.append(file, b"more")?;
-    disk.sync_file(file)
+    append(disk, file, b"bytes")?;
+    sync_file(disk, file)
 }
 
 /// Two ports and 70 files that take records.
@@ -273,22 +431,22 @@ fn handles_keep_64_descriptors_at_all_ports_together(rt: HostRuntime) -> Result<
         fork: _,
         file: _,
     } = Bench::new(&rt)?;
-    let mut fork = root.fork()?;
+    let mut other = fork(&mut root)?;
     let mut files = Vec::new(rt.alloc());
     for _ in 0..35 {
         files.push(write_one(&mut root)?)?;
-        files.push(write_one(&mut fork)?)?;
+        files.push(write_one(&mut other)?)?;
     }
     assert_eq!(rt; count_closed(&system), 6);
     let mut last = files.pop().ok_or("none")?;
-    append_and_sync(&mut fork, &mut last)?;
+    append_and_sync(&mut other, &mut last)?;
     assert_eq!(rt; count_closed(&system), 1, "past the limit");
     files.truncate(63);
     assert_eq!(rt; count_closed(&system), 1, "one is let go");
     append_and_sync(&mut root, &mut last)?;
-    append_and_sync(&mut fork, &mut last)?;
+    append_and_sync(&mut other, &mut last)?;
     assert_eq!(rt; count_closed(&system), 0, "within the limit again");
-    fork.give(last);
+    give(&mut other, last);
     drop(files);
     assert_eq!(rt; count_closed(&system), 64);
     Ok(())
@@ -297,8 +455,6 @@ fn handles_keep_64_descriptors_at_all_ports_together(rt: HostRuntime) -> Result<
 // ---- real files
 
 type Disk = RealFolder<HostRuntime>;
-
-type DiskFile = RealFile<fs::File>;
 
 /// The path of an empty folder that no other test has.
 fn scratch(rt: &HostRuntime, test: &str) -> io::Result<String> {
@@ -317,66 +473,6 @@ fn path_in(rt: &HostRuntime, folder: &String, file: &str) -> io::Result<String> 
     Ok(format!(in rt.alloc(); "{folder}/{file}")?)
 }
 
-/// Checks how often the disk failed, and how it did first.
-fn expect_faults(
-    rt: &(impl Abort + AllocGlobal),
-    disk: &Disk,
-    count: u64,
-    first: &str,
-) -> Result<(), AllocError> {
-    let text = match disk.first_error() {
-        Some(error) => format!(in rt.alloc(); "{error}")?,
-        None => String::new(rt.alloc()),
-    };
-    assert_eq!(rt; text.as_str(), first);
-    assert_eq!(rt; disk.faults(), count, "after {first}");
-    Ok(())
-}
-
-fn create(disk: &mut Disk) -> Result<DiskFile, FolderRefusal> {
-    disk.create(NAME)
-}
-
-fn take(disk: &mut Disk) -> Result<DiskFile, FolderRefusal> {
-    disk.take(NAME)
-}
-
-fn append(disk: &mut Disk, file: &mut DiskFile, piece: &[u8]) -> Result<(), FolderRefusal> {
-    disk.append(file, piece)
-}
-
-fn sync_file(disk: &mut Disk, file: &mut DiskFile) -> Result<(), FolderRefusal> {
-    disk.sync_file(file)
-}
-
-fn mark(disk: &Disk, file: &mut DiskFile) -> bool {
-    disk.mark(file)
-}
-
-fn is_removed(disk: &mut Disk, file: DiskFile) -> bool {
-    disk.remove(file).is_ok()
-}
-
-fn expect_names(rt: &impl Abort, disk: &mut Disk, wanted: &[ChunkName]) -> Result<(), Fail> {
-    let names = disk.names()?;
-    assert_eq!(rt; names.as_slice(), wanted);
-    Ok(())
-}
-
-/// Reads a piece of at most four bytes, and checks it.
-fn expect_piece(
-    rt: &impl Abort,
-    disk: &mut Disk,
-    file: &mut DiskFile,
-    at: u64,
-    wanted: &[u8],
-) -> Result<(), FolderRefusal> {
-    let mut buffer = [0u8; 4];
-    let count = disk.read(file, at, &mut buffer)?;
-    assert_eq!(rt; &buffer[..count], wanted, "at {at}");
-    Ok(())
-}
-
 /// How many descriptors this process holds, the one that counts them included.
 fn count_open(rt: &HostRuntime) -> io::Result<usize> {
     Ok(fs::read_dir(rt, "/proc/self/fd")?.count())
@@ -389,54 +485,37 @@ fn write_nine(disk: &mut Disk) -> Result<(), FolderRefusal> {
     append(disk, &mut file, b"six")?;
     sync_file(disk, &mut file)?;
     append(disk, &mut file, b"!")?;
-    disk.sync_names()?;
-    disk.give(file);
+    sync_names(disk)?;
+    give(disk, file);
+    Ok(())
+}
+
+/// Reads a piece of at most four bytes, and checks it.
+fn expect_piece(
+    rt: &impl Abort,
+    disk: &mut Disk,
+    file: &mut RealFile<fs::File>,
+    at: u64,
+    wanted: &[u8],
+) -> Result<(), FolderRefusal> {
+    let (buffer, count) = read(disk, file, at)?;
+    assert_eq!(rt; buffer.get(..count), Some(wanted), "at {at}");
     Ok(())
 }
 
 /// Reads the nine bytes in pieces up to the end, and adds one.
-fn read_nine_and_add(rt: &impl Abort, disk: &mut Disk) -> Result<DiskFile, FolderRefusal> {
+fn read_nine_and_add(
+    rt: &impl Abort,
+    disk: &mut Disk,
+) -> Result<RealFile<fs::File>, FolderRefusal> {
     let mut file = take(disk)?;
-    expect_piece(rt, disk, &mut file, 0, b"five")?;
-    expect_piece(rt, disk, &mut file, 4, b" six")?;
-    expect_piece(rt, disk, &mut file, 8, b"!")?;
-    expect_piece(rt, disk, &mut file, 9, b"")?;
+    for (at, wanted) in [(0, "five"), (4, " six"), (8, "!"), (9, "")] {
+        expect_piece(rt, disk, &mut file, at, wanted.as_bytes())?;
+    }
     sync_file(disk, &mut file)?;
     append(disk, &mut file, b"?")?;
     expect_piece(rt, disk, &mut file, 6, b"ix!?")?;
     Ok(file)
-}
-
-#[test]
-fn a_file_is_written_found_read_and_removed(rt: HostRuntime) -> Result<(), Fail> {
-    let path = scratch(&rt, "goes")?;
-    let others = [
-        "notes",
-        "p03-v-0000000000000007.chunl",
-        "p64-v-0000000000000007.chunk",
-    ];
-    for other in others {
-        fs::write(&rt, path_in(&rt, &path, other)?, "other")?;
-    }
-    let mut disk = port(&rt, &path)?;
-    write_nine(&mut disk)?;
-    expect_names(&rt, &mut disk, &[NAME])?;
-    let before = count_open(&rt)?;
-    let file = read_nine_and_add(&rt, &mut disk)?;
-    handle_goes(&file);
-    port_goes(&disk);
-    assert_eq!(rt; count_open(&rt)?, before.saturating_add(1), "an open file");
-    let bytes = fs::read(&rt, path_in(&rt, &path, FILE)?)?;
-    assert_eq!(rt; bytes.as_slice(), b"five six!?".as_slice());
-    assert!(rt; create(&mut disk).is_err(), "it is there");
-    assert!(rt; is_removed(&mut disk, file));
-    assert_eq!(rt; count_open(&rt)?, before, "it is closed");
-    expect_names(&rt, &mut disk, &[])?;
-    let text = "create p03-v-0000000000000007.chunk: File exists (os error 17)";
-    expect_faults(&rt, &disk, 1, text)?;
-    assert_eq!(rt; fs::read_dir(&rt, path.as_str())?.count(), 3, "other files");
-    fs::remove_dir_all(&rt, path)?;
-    Ok(())
 }
 
 fn goes_to_a_thread<T: Send>(_it: &T) {}
@@ -455,96 +534,60 @@ where
 }
 
 #[test]
-fn the_first_error_is_kept(rt: HostRuntime) -> Result<(), Fail> {
-    let path = scratch(&rt, "first")?;
+fn a_file_is_written_found_read_and_removed(rt: HostRuntime) -> Result<(), Fail> {
+    let path = scratch(&rt, "goes")?;
+    for other in [
+        "notes",
+        "p03-v-0000000000000007.chunl",
+        "p64-v-0000000000000007.chunk",
+    ] {
+        fs::write(&rt, path_in(&rt, &path, other)?, "other")?;
+    }
     let mut disk = port(&rt, &path)?;
-    let mut fork = disk.fork()?;
-    let mut file = take(&mut disk)?;
-    assert_eq!(rt;
-        sync_file(&mut disk, &mut file).err(),
-        Some(FolderRefusal::Fault)
-    );
-    let opened = "open p03-v-0000000000000007.chunk: No such file or directory (os error 2)";
-    expect_faults(&rt, &disk, 1, opened)?;
-    expect_faults(&rt, &fork, 0, "")?;
-    assert!(rt; !is_removed(&mut fork, file));
-    let removed = "remove p03-v-0000000000000007.chunk: No such file or directory (os error 2)";
-    expect_faults(&rt, &fork, 1, removed)?;
-    disk.adopt(fork);
-    expect_faults(&rt, &disk, 2, opened)?;
-    let nowhere = String::from_str(rt.alloc(), "/nowhere/at/all")?;
-    let mut root = port(&rt, &nowhere)?;
-    root.adopt(disk);
-    assert_eq!(rt; root.names().err(), Some(FolderRefusal::Fault));
-    expect_faults(&rt, &root, 3, opened)?;
-    let mut root = port(&rt, &nowhere)?;
-    assert_eq!(rt; root.sync_names().err(), Some(FolderRefusal::Fault));
-    let missing = "open /nowhere/at/all: No such file or directory (os error 2)";
-    expect_faults(&rt, &root, 1, missing)?;
-    fs::remove_dir(&rt, path)?;
+    write_nine(&mut disk)?;
+    assert_eq!(rt; names(&mut disk)?.as_slice(), [NAME].as_slice());
+    let before = count_open(&rt)?;
+    let file = read_nine_and_add(&rt, &mut disk)?;
+    handle_goes(&file);
+    port_goes(&disk);
+    assert_eq!(rt; count_open(&rt)?, before.saturating_add(1), "an open file");
+    let bytes = fs::read(&rt, path_in(&rt, &path, FILE)?)?;
+    assert_eq!(rt; bytes.as_slice(), b"five six!?".as_slice());
+    assert!(rt; create(&mut disk).is_err(), "it is there");
+    assert!(rt; remove(&mut disk, file)?.is_none());
+    assert_eq!(rt; count_open(&rt)?, before, "it is closed");
+    assert!(rt; names(&mut disk)?.is_empty());
+    let text = "1 create p03-v-0000000000000007.chunk: File exists (os error 17)";
+    assert_eq!(rt; faults_of(rt.alloc(), &disk)?.as_str(), text);
+    assert_eq!(rt; fs::read_dir(&rt, path.as_str())?.count(), 3, "other files");
+    fs::remove_dir_all(&rt, path)?;
     Ok(())
 }
 
-#[test]
-fn a_name_is_fixed_by_a_later_sync_of_its_port(rt: HostRuntime) -> Result<(), Fail> {
-    let path = scratch(&rt, "fixed")?;
-    let mut disk = port(&rt, &path)?;
-    disk.sync_names()?;
-    let mut file = create(&mut disk)?;
-    assert!(rt; !mark(&disk, &mut file));
-    disk.sync_names()?;
-    assert!(rt; mark(&disk, &mut file));
-    let mut fork = disk.fork()?;
-    assert!(rt; !mark(&fork, &mut file));
-    fork.sync_names()?;
-    assert!(rt; mark(&fork, &mut file));
-    let mut nameless = fork.fork()?;
-    let mut other = fork.fork()?;
-    assert!(rt; !mark(&nameless, &mut file));
-    nameless.sync_names()?;
-    other.sync_names()?;
-    assert!(rt; !mark(&other, &mut file));
-    assert!(rt; is_removed(&mut disk, file));
-    fs::remove_dir(&rt, path)?;
-    Ok(())
-}
-
-/// A second root over a folder, as another program has it, at each step of the first one's.
+/// A second root over a folder, as another program has it: at each step how many names it lists, or that it can't.
 #[test]
 fn one_root_at_a_time_works_on_a_folder(rt: HostRuntime) -> Result<(), Fail> {
     let path = scratch(&rt, "lock")?;
-    let taken = format!(in rt.alloc(); "lock {path}: another program works on the folder")?;
     let mut first = port(&rt, &path)?;
     let mut second = port(&rt, &path)?;
     write_nine(&mut second)?;
-    assert_eq!(rt; first.names().err(), Some(FolderRefusal::Fault));
+    assert!(rt; names(&mut first).is_err(), "the second has the lock");
     assert!(rt; create(&mut first).is_err());
-    expect_faults(&rt, &first, 2, taken.as_str())?;
-    expect_faults(&rt, &second, 0, "")?;
-    let mut fork = second.fork()?;
+    let taken = format!(in rt.alloc(); "2 lock {path}: another program works on the folder")?;
+    assert_eq!(rt; faults_of(rt.alloc(), &first)?.as_str(), taken.as_str());
+    let mut other = fork(&mut second)?;
     drop(second);
-    assert_eq!(rt;
-        first.names().err(),
-        Some(FolderRefusal::Fault),
-        "its fork is there"
+    assert!(rt; names(&mut first).is_err(), "its fork has the lock");
+    assert_eq!(rt; names(&mut other)?.len(), 1);
+    let mut barred = fork(&mut first)?;
+    drop(other);
+    assert_eq!(rt; names(&mut first)?.len(), 1, "the lock is free");
+    assert!(rt; names(&mut barred).is_err(), "it was made without a lock");
+    adopt(&mut first, barred);
+    assert!(rt;
+        sync_names(&mut port(&rt, &path)?).is_err(),
+        "the first has the lock"
     );
-    expect_names(&rt, &mut fork, &[NAME])?;
-    let mut barred = first.fork()?;
-    drop(fork);
-    expect_names(&rt, &mut first, &[NAME])?;
-    assert_eq!(rt; barred.names().err(), Some(FolderRefusal::Fault));
-    let made = format!(in rt.alloc();
-        "lock {path}: the folder was not locked when this port was made"
-    )?;
-    expect_faults(&rt, &barred, 1, made.as_str())?;
-    let mut third = port(&rt, &path)?;
-    first.adopt(barred);
-    assert_eq!(rt;
-        third.sync_names().err(),
-        Some(FolderRefusal::Fault),
-        "an adoption"
-    );
-    expect_faults(&rt, &third, 1, taken.as_str())?;
     assert_eq!(rt;
         fs::read_dir(&rt, path.as_str())?.count(),
         1,
