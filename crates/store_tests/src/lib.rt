@@ -16,6 +16,8 @@ mod folders;
 #[cfg(test)]
 mod maps;
 #[cfg(test)]
+mod real_files;
+#[cfg(test)]
 mod restarts;
 #[cfg(test)]
 mod sessions;
@@ -23,6 +25,8 @@ mod sessions;
 mod stops;
 #[cfg(test)]
 mod texts;
+#[cfg(test)]
+mod watched;
 #[cfg(test)]
 mod words;
 #[cfg(test)]
