@@ -19,6 +19,3 @@ pub use source::Source;
 pub use source_in_memory::MemSource;
 pub use source_of_std::StdSource;
 pub use unfailing::{EndlessSource, NullSink};
-
-#[cfg(test)]
-mod tests;

@@ -6,8 +6,6 @@ mod header;
 mod laws;
 mod reading;
 mod record;
-#[cfg(test)]
-mod tests;
 
 pub use copies::copied_together;
 pub use laws::{

@@ -1,6 +1,5 @@
 -- The steps of reading a script, one text after another.
 use Rattle.std.proofs.Common.{◌≡◌, ◌+◌, ℕ, List, [], ◌∷◌, ◌++◌, All, map, length, sym, ap, ◌∙◌, append_assoc}
-
 use Rattle.std.proofs.lemmas.List.{append-nil, nil_from_length, map_push}
 use Rattle.script_text.specs.declared.line.Line.{Line}
 use Rattle.script_text.specs.declared.line.Mode.{Mode}

@@ -10,8 +10,6 @@ mod print;
 mod read;
 mod reply;
 mod script;
-#[cfg(test)]
-mod tests;
 mod text;
 mod view;
 

@@ -7,8 +7,6 @@ mod lines;
 mod output;
 mod session;
 mod step;
-#[cfg(test)]
-mod tests;
 mod writers;
 
 pub use dumping::dump;
