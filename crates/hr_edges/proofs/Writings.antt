@@ -48,6 +48,11 @@ pub written_torn : (old mid new : Option (List ℕ)) (piece rest : List ℕ) →
 written_torn None mid new piece rest w t = tt
 written_torn (Some old) mid new piece rest w t = torn_past old mid new piece rest w t
 
+-- a call took nothing
+pub torn_none : (old new : Option (List ℕ)) (piece : List ℕ) (n : ℕ) → TakesAll old new (take n piece) → TakesFront old new piece
+torn_none None new piece n t = tt
+torn_none (Some old) new piece n t = (n, t)
+
 -- what is told stays told, and what is not told does not come to be told
 pub untold_of_written : (old new : Option (List ℕ)) (piece rest : List ℕ) → Written old new piece rest → StaysUntold old new
 untold_of_written None new piece rest w = w

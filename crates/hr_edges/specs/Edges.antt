@@ -1,6 +1,7 @@
 -- What the calls of sources and sinks do to the bytes, where these are told, and to the counts of failures.
-use Rattle.std.specs.Prelude.{◌≡◌, ℕ, ◌<◌, ◌≤◌, Bool, true, false, ◌&&◌, ◌==◌, nat_lt, List, [], ◌++◌, length, take, drop, Option, None, Some, Result, Ok, Err}
+use Rattle.std.specs.Prelude.{◌≡◌, ℕ, ◌<◌, ◌≤◌, ◌+◌, Bool, true, ◌&&◌, ◌==◌, nat_lt, List, [], ◌++◌, length, take, drop, Option, None, Some, Result, Ok, Err}
 use Rattle.hr_edges.specs.declared.failure.Failed.{Failed}
+use Rattle.hr_edges.specs.declared.reading.TheConstants.{PIECE_LEN}
 
 -- ---- both
 
@@ -17,20 +18,23 @@ pub record GivesFirst (bytes : List ℕ) (left : Option (List ℕ)) (count : ℕ
   pub rest : left ≡ Some (drop count bytes)
   pub given : take count into ≡ take count bytes
 
--- some last part of the bytes is left
-abbrev pub LeavesRest : List ℕ → Option (List ℕ) → Type 0
-LeavesRest bytes left = (count : ℕ) × (left ≡ Some (drop count bytes))
-
 -- of all bytes these were read, and the others are left
 pub record WasRead (left : Option (List ℕ)) (all read : List ℕ) : Type 0 where
   pub rest : List ℕ
   pub whole : all ≡ read ++ rest
   pub left_is : left ≡ Some rest
 
--- more than `limit` of all bytes were read, and the others are left
+-- more than `limit` of all bytes were read, at most a piece more, and the others are left
 pub record ReadsTooMuch (limit : ℕ) (all : List ℕ) (left : Option (List ℕ)) : Type 0 where
   pub read : List ℕ
   pub more : limit < length read
+  pub few : length read ≤ limit + PIECE_LEN
+  pub was_read : WasRead left all read
+
+-- at most `limit` of all bytes were read, and the others are left
+pub record ReadsAtMost (limit : ℕ) (all : List ℕ) (left : Option (List ℕ)) : Type 0 where
+  pub read : List ℕ
+  pub few : length read ≤ limit
   pub was_read : WasRead left all read
 
 -- the source was read to its end, where it tells its bytes

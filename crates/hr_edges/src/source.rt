@@ -6,7 +6,7 @@ use crate::failure::Failed;
 pub trait Source {
     ghost use Rattle.std.specs.Prelude.{◌≡◌, ◌<◌, ◌≤◌, ℕ, [], List, Option, IfSome, IfOk, OnErr, is_err, length};
     ghost use Rattle.hr_base.specs.Counts.{CountsFault};
-    ghost use Rattle.hr_edges.specs.Edges.{GivesFirst, LeavesRest, StaysUntold};
+    ghost use Rattle.hr_edges.specs.Edges.{GivesFirst, StaysUntold};
 
     /// The bytes that are left, where that is told.
     ghost left: { Self → Option (List ℕ) };
@@ -21,8 +21,7 @@ pub trait Source {
             (λ bytes. IfOk result (λ n. GivesFirst bytes (left self.new) n into.new)) }
         ensures end { IfSome (left self.old)
             (λ bytes. IfOk result (λ n. n ≡ 0 → 0 < length into.new → bytes ≡ [])) }
-        ensures refused { IfSome (left self.old)
-            (λ bytes. OnErr result (LeavesRest bytes (left self.new))) }
+        ensures refused { OnErr result (left self.new ≡ left self.old) }
         ensures untold { StaysUntold (left self.old) (left self.new) }
         ensures counted { CountsFault (is_err result) (count self.old) (count self.new) };
 

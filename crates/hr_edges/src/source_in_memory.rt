@@ -47,7 +47,7 @@ impl MemSource {
 
 impl Source for MemSource {
     ghost use Rattle.hr_base.specs.Counts.{CountsFault};
-    ghost use Rattle.hr_edges.specs.Edges.{GivesFirst, LeavesRest};
+    ghost use Rattle.hr_edges.specs.Edges.{GivesFirst};
     ghost use Rattle.hr_edges.specs.Schedules.{after_call, is_due, least};
 
     ghost left = { λ source. Some (drop source.at source.bytes.items) };

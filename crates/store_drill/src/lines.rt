@@ -10,10 +10,9 @@ ghost use Rattle.restart_load.specs.Writers.{EachIs, standings};
 ghost use Rattle.store_drill.specs.Playing.{Played};
 ghost use Rattle.store_drill.specs.Writers.{Runs, faults_of};
 
-use crate::output::write_all;
 use crate::step::{Step, answer};
 use dir_files::Folder;
-use hr_edges::Sink;
+use hr_edges::{Sink, write_all};
 use partition_writer::Writer;
 use restart_load::Ended;
 use script_text::Lines;

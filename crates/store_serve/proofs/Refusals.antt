@@ -12,10 +12,10 @@ use Rattle.store_drill.specs.Sessions.{NotBegun, Outside}
 use Rattle.store_serve.specs.declared.outcome.Outcome.{Outcome}
 use Rattle.store_serve.specs.declared.outcome.Outcome.TheVariants.{Words, TooLong, BadLine, Input, Ended}
 use Rattle.store_serve.specs.Outcome.{CanRefuse, last_line, status_of, Tells}
-use Rattle.store_serve.specs.Scripts.{IsRefusedScript, IsUnfit}
+use Rattle.store_serve.specs.Scripts.{IsRefusedScript, IsUnfit, ReadsFew}
 use Rattle.store_serve.specs.Served.{Because, CameTo, IsRefusedWords, Means, RanTo, ReadsNothingUnfit, WasRefused, WasUnloadable, World, partitions_of}
 use Rattle.store_serve.proofs.Meanings.{means_also, means_this, obeyed}
-use Rattle.store_serve.proofs.Outcomes.{load_told, told_of, unfit_of}
+use Rattle.store_serve.proofs.Outcomes.{input_told, load_told, told_of, unfit_of}
 use Rattle.store_serve.proofs.ScriptLaws.{fit_not_bad, fit_not_long, unfit_script}
 
 -- ---- status 2
@@ -89,6 +89,21 @@ pub unfit_told : (tells : Bool) (words : List (List ℕ)) (before mid : World) (
     → Because tells words before mid outcome → Tells outcome status mid.outside.taken now → IsCommand words (Play limits) → IsUnfit limits.partitions before.left → CanRefuse status
 unfit_told tells words before mid now outcome status limits because heard meaning unfit =
     unfit_of outcome status mid.outside.taken now heard (unfit_by tells words before mid outcome limits because meaning unfit)
+
+-- ---- status 3
+
+few_by : (tells : Bool) (command : Command) (before mid : World) → CameTo tells command before mid Input → ReadsFew before.left mid.left
+few_by tells (Play limits) before mid came = elim came [ inl refused ↦ refused.why | inr ran ↦ absurd ran ]
+few_by tells (Dump limits) before mid came = absurd came
+
+-- the input failed before more was read than a script may have
+pub few_told : (tells : Bool) (words : List (List ℕ)) (before mid : World) (now : Option (List ℕ)) (outcome : Outcome) (status : ℕ)
+    → Because tells words before mid outcome → Tells outcome status mid.outside.taken now → status ≡ 3 → ReadsFew before.left mid.left
+few_told tells words before mid now outcome status because heard e =
+    let input = input_told outcome status mid.outside.taken now heard e in
+    let came : Because tells words before mid Input = subst (λ (x : Outcome). Because tells words before mid x) input because in
+    let did = obeyed tells words before mid Input came (λ f. cc) (λ f. cc) in
+    few_by tells did.command before mid did.holds
 
 -- ---- status 6
 

@@ -1,6 +1,7 @@
 -- What is a script is refused for none of its lines.
-use Rattle.std.specs.Prelude.{ℕ, ◌^◌, List, Option, Some, None}
+use Rattle.std.specs.Prelude.{ℕ, List, Option, Some, None}
 use Rattle.std.proofs.Common.{arith, inl, inr}
+use Rattle.hr_base.specs.declared.limits.TheConstants.{MAX_SCRIPT_LEN}
 use Rattle.hr_edges.specs.Edges.{ReadsTooMuch}
 use Rattle.hr_edges.proofs.Readings.{ReadsTooMuch-all}
 use Rattle.script_text.specs.declared.line.Line.{Line}
@@ -11,8 +12,8 @@ use Rattle.store_serve.specs.Scripts.{IsScriptOf, IsBadAt, IsFit, IsTooLong, IsU
 pub bad_or_script_of : (partitions : ℕ) (bytes : List ℕ) (lines : List Line) (number : ℕ) → IsBadAt partitions (Some bytes) number → IsScriptOf partitions (Some bytes) lines → ⊥
 bad_or_script_of partitions bytes lines number bad script = bad_or_script Play partitions bytes lines number script.1 bad.1
 
-pub too_long_for_script : (partitions : ℕ) (bytes : List ℕ) (left : Option (List ℕ)) (lines : List Line) → ReadsTooMuch (2 ^ 26) bytes left → IsScriptOf partitions (Some bytes) lines → ⊥
-too_long_for_script partitions bytes left lines long script = omega (arith, ReadsTooMuch-all (2 ^ 26) bytes left long, script.0)
+pub too_long_for_script : (partitions : ℕ) (bytes : List ℕ) (left : Option (List ℕ)) (lines : List Line) → ReadsTooMuch MAX_SCRIPT_LEN bytes left → IsScriptOf partitions (Some bytes) lines → ⊥
+too_long_for_script partitions bytes left lines long script = omega (arith, ReadsTooMuch-all MAX_SCRIPT_LEN bytes left long, script.0)
 
 -- what is no script has no lines
 pub unfit_script : (partitions : ℕ) (left : Option (List ℕ)) (lines : List Line) → IsUnfit partitions left → IsScriptOf partitions left lines → ⊥

@@ -4,8 +4,8 @@ use Rattle.command_words.specs.declared.parse.WordsRefusal.TheVariants as words
 use Rattle.script_text.specs.declared.script.ScriptRefusal.{ScriptRefusal}
 use Rattle.script_text.specs.declared.script.ScriptRefusal.TheVariants as script
 use Rattle.restart_load.specs.declared.ended.Ended.TheVariants.{Memory}
-use Rattle.store_serve.specs.declared.input.InputRefusal.{InputRefusal}
-use Rattle.store_serve.specs.declared.input.InputRefusal.TheVariants as input
+use Rattle.hr_edges.specs.declared.reading.InputRefusal.{InputRefusal}
+use Rattle.hr_edges.specs.declared.reading.InputRefusal.TheVariants as input
 use Rattle.store_serve.specs.declared.outcome.Outcome.{Outcome}
 use Rattle.store_serve.specs.declared.outcome.Outcome.TheVariants.{Words, TooLong, BadLine, Input, Ended}
 

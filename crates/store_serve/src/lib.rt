@@ -1,7 +1,6 @@
 //! The top call of the program: what the command words say, done over a folder, a source and a sink.
 #![tactic(auto)]
 
-mod input;
 mod outcome;
 mod script;
 mod serving;

@@ -3,8 +3,8 @@
 ghost use Rattle.std.specs.Prelude.{◌≡◌};
 ghost use Rattle.store_serve.specs.Ends.{outcome_of_input, outcome_of_script, outcome_of_words};
 
-use crate::input::InputRefusal;
 use command_words::WordsRefusal;
+use hr_edges::InputRefusal;
 use script_text::ScriptRefusal;
 use store_drill::Ended;
 

@@ -9,9 +9,9 @@ ghost use Rattle.script_text.specs.Lines.{IsLine};
 ghost use Rattle.store_serve.specs.declared.outcome.Outcome.{Outcome};
 ghost use Rattle.store_serve.specs.Scripts.{IsRefusedScript, IsScriptOf};
 
-use crate::input::read_all;
 use crate::outcome::Outcome;
-use hr_edges::Source;
+use hr_base::MAX_SCRIPT_LEN;
+use hr_edges::{Source, read_all};
 use script_text::{Mode, Script, read_script};
 use std::alloc::Global;
 
@@ -29,6 +29,6 @@ pub fn read_lines<S: Source>(
     ensures fault { IfErr result (λ e. e ≡ Outcome.Input → Rose (S.count input.old) (S.count input.new)) }
     ensures kept { S.count input.old ≤ S.count input.new }
 {
-    let bytes = read_all(alloc, input)?;
+    let bytes = read_all(alloc, input, MAX_SCRIPT_LEN)?;
     Ok(read_script(bytes, Mode::Play, partitions)?)
 }

@@ -14,7 +14,7 @@ ghost use Rattle.restart_load.specs.declared.ended.Ended.{Ended};
 ghost use Rattle.restart_load.specs.declared.refusal.RestartRefusal.{RestartRefusal};
 ghost use Rattle.store_serve.specs.declared.outcome.Outcome.{Outcome};
 ghost use Rattle.store_serve.specs.Outcome.{IsTellable, IsEarly, CanRefuse, CanRefuseFolder, CanRefuseNumber, CanRefuseWords};
-ghost use Rattle.store_serve.specs.Scripts.{IsFit, IsUnfit};
+ghost use Rattle.store_serve.specs.Scripts.{IsFit, IsUnfit, ReadsFew};
 ghost use Rattle.store_serve.specs.Served.{Because, CameTo, CanBegin, IsNoCommand, Means, ReadsNothingUnfit, Served, WasDone, WasRefused, WasSpentBy, WasUnloadable, WillSpend, partitions_of, world};
 
 use crate::outcome::Outcome;
@@ -132,6 +132,8 @@ pub fn serve<F: Folder, S: Source, K: Sink>(
     ensures input { result ≡ 3 → Rose (S.count input.old) (S.count input.new) }
     ensures sink { result ≡ 4 → Rose (K.count out.old) (K.count out.new) }
     ensures disk { result ≡ 5 → Rose (F.count folder.old) (F.count folder.new) }
+    // Status 3: no more was read than a script may have.
+    ensures few { result ≡ 3 → ReadsFew (S.left input.old) (S.left input.new) }
     // Status 6: the folder does not restart, the first thing that is wrong with it is told, and nothing else. Such a folder
     // is never played over, nor written.
     ensures unloadable { F.tells ≡ true → result ≡ 6

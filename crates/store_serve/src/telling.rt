@@ -11,10 +11,10 @@ ghost use Rattle.store_serve.specs.Outcome.{Tells, IsTellable, last_line, refusa
 
 use crate::outcome::Outcome;
 use hr_base::print_name;
-use hr_edges::Sink;
+use hr_edges::{Sink, write_all};
 use itoa::Buffer;
 use std::alloc::{AllocError, Global};
-use store_drill::{Ended, RestartRefusal, write_all};
+use store_drill::{Ended, RestartRefusal};
 
 /// The status that tells an outcome.
 fn status(outcome: Outcome) -> u8

@@ -7,7 +7,7 @@ use Rattle.store_serve.specs.Served.{WasDone, WasRefused, WasSpentBy, WasUnloada
 use Rattle.store_serve.proofs.Doings.{begins_fit, begins_loadable, begins_unspent, done_restarts, done_told, number_told, read_told, spent_restarts, unwritten_by}
 use Rattle.store_serve.proofs.Meanings.{means_this, rose_earlier, rose_later}
 use Rattle.store_serve.proofs.Outcomes.{all_done, disk_told, early_told, input_told, wordless_told, spends_told, words_told, wrong_told}
-use Rattle.store_serve.proofs.Refusals.{fit_refused, refused_told, unfit_told, unloadable_told}
+use Rattle.store_serve.proofs.Refusals.{few_told, fit_refused, refused_told, unfit_told, unloadable_told}
 use Rattle.store_serve.proofs.Spendings.{spends_fit, spends_restarts, spends_undone}
 use Rattle.store_serve.proofs.serving.serve.Goals as goal
 
@@ -46,6 +46,9 @@ returns-clause-untouched g c h = c.run-outcome.ensures.untouched (early_told _ _
 
 pub returns-clause-input : goal.returns-clause-input
 returns-clause-input g c e = c.run-outcome.ensures.input (input_told _ _ _ _ c.tell.ensures.told e)
+
+pub returns-clause-few : goal.returns-clause-few
+returns-clause-few g c e = few_told _ _ _ _ _ _ _ c.run-outcome.ensures.because c.tell.ensures.told e
 
 pub returns-clause-disk : goal.returns-clause-disk
 returns-clause-disk g c e = c.run-outcome.ensures.disk (disk_told _ _ _ _ c.tell.ensures.told e)

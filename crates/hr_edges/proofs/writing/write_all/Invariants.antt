@@ -1,6 +1,6 @@
 use Rattle.std.proofs.Common.{◌≤◌, length}
 use Rattle.hr_edges.proofs.Writings.{Written}
-use Rattle.store_drill.proofs.output.write_all.Given as goal
+use Rattle.hr_edges.proofs.writing.write_all.Given as goal
 
 -- what was taken so far is a front of the piece, and the rest is to be written
 abbrev pub invariant-loop-rest : goal.invariant-loop-rest
