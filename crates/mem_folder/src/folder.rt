@@ -1,6 +1,6 @@
 //! A folder that lies in memory, and whose calls fail as planned.
 
-ghost use Rattle.std.specs.Prelude.{◌≡◌, ◌⊎◌, ◌≤◌, ◌+◌, ◌-◌, ◌/◌, ◌^◌, Some, None, [], true, false, All, length, min, take, MatchOption, IfOk, IsErrOf, IsSome, OnOk, OnErr};
+ghost use Rattle.std.specs.Prelude.{◌≡◌, ◌≤◌, ◌+◌, ◌-◌, ◌/◌, ◌^◌, Some, None, [], true, false, All, length, min, take, MatchOption, IfOk, IsErrOf, IsSome, OnOk, OnErr, if◌then◌else◌};
 ghost use Rattle.hr_base.specs.declared.name.ChunkName.{ChunkName};
 ghost use Rattle.hr_base.specs.Names.{IsChunkName};
 ghost use Rattle.dir_files.specs.Files.{FileState, new_file, with_bytes, synced_file, IsReadAt};
@@ -22,7 +22,7 @@ use hr_base::{ChunkName, Memory, Pick};
 use std::alloc::Global;
 
 /// A port of a folder in memory. Its calls fail as its plan says, and it tells everything. A failed `create` leaves no
-/// file, and a failed `append` the first half of its piece, or nothing of it where there is no memory for that.
+/// file, and a failed `append` the first half of its piece.
 #[derive(Debug, Drop)]
 pub struct MemFolder {
     chain: Chain,
@@ -124,6 +124,17 @@ impl MemFolder {
                 Some(content) => Some(content.bytes()),
             },
         }
+    }
+}
+
+/// What is appended of a piece: all of it, or where the disk fails the first half.
+fn appended(piece: &[u8], fails: bool) -> &[u8]
+    ensures { result.now ≡ (if fails then take (length piece.now / 2) piece.now else piece.now) }
+{
+    if fails {
+        &piece[..piece.len() / 2]
+    } else {
+        piece
     }
 }
 
@@ -240,24 +251,21 @@ impl Folder for MemFolder {
         Ok(file)
     }
 
+    /// Memory is taken before the call counts.
     fn append(&mut self, file: &mut MemFile, piece: &[u8]) -> Result<(), FolderRefusal>
         ensures appended { OnOk result (file.new.content ≡ with_bytes file.old.content piece.now) }
         ensures failed { IsErrOf result FolderRefusal.Fault
-            → (file.new.content ≡ with_bytes file.old.content (take (length piece.now / 2) piece.now))
-            ⊎ (file.new.content ≡ file.old.content) }
+            → file.new.content ≡ with_bytes file.old.content (take (length piece.now / 2) piece.now) }
         ensures memory { IsErrOf result FolderRefusal.Memory → file.new.content ≡ file.old.content }
+        ensures uncounted { IsErrOf result FolderRefusal.Memory → self.new ≡ self.old }
         ensures name { file.new.name ≡ file.old.name }
         ensures same { self.new.chain ≡ self.old.chain }
-        ensures planned { FollowsPlan self.old.faults self.new.faults (is_fault result) }
+        ensures planned { (IsErrOf result FolderRefusal.Memory → ⊥) → FollowsPlan self.old.faults self.new.faults (is_fault result) }
         ensures counts { CountsFault (is_fault result) self.old.faults.count self.new.faults.count }
         ensures stays_sound { StaysSound (is_sound self.old.faults) (is_sound self.new.faults) self.new.faults.count }
     {
-        if let Err(refusal) = self.strike() {
-            file.append_half(piece);
-            return Err(refusal);
-        }
-        file.append(piece)?;
-        Ok(())
+        file.append(appended(piece, self.faults.is_due()))?;
+        self.strike()
     }
 
     fn sync_file(&mut self, file: &mut MemFile) -> Result<(), FolderRefusal>

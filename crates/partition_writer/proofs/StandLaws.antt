@@ -35,7 +35,8 @@ use Rattle.partition_writer.specs.Standing.{Beginning, HoldsTail, IsBeginning, I
 use Rattle.partition_writer.specs.Storing.{AppendsTo, AddsEmpty, IsBelow, IsOpen, NamesOwn, TakesIn}
 use Rattle.partition_writer.specs.Answers.{NotesCommand}
 use Rattle.partition_writer.specs.Answers as answers
-use Rattle.partition_writer.proofs.FileLaws.{all_alike, all_own, changes_all, chosen_cases, class_of_writer_kind, durable_all, fits_all, none_unless, own_not_found, rises_all, some_not_none, taking_named}
+use Rattle.dir_files.proofs.JoinLaws.{no_some}
+use Rattle.partition_writer.proofs.FileLaws.{all_alike, all_own, changes_all, chosen_cases, class_of_writer_kind, durable_all, fits_all, none_unless, own_not_found, rises_all, taking_named}
 use Rattle.partition_writer.proofs.StoreLaws.{fits_within}
 
 -- ---- the chunk that a record goes to
@@ -232,7 +233,7 @@ stand_resumed s b is none takes maps records next chunk whole = record {
     taking = takes;
   });
   from = omega (arith, chunk);
-  own = λ name file is. absurd (some_not_none (files_of s.stock name) file (none name) is);
+  own = λ name file is. absurd (no_some (files_of s.stock name) file (none name) is);
   taking = λ name taking. absurd (false≢true (sym (takes name) ∙ taking));
 }
 
@@ -249,7 +250,7 @@ same_taking old new keeps name is =
 
 -- a file that is there after was there before
 was_there : (o p : Option FileState) (file : FileState) → Rises o p → p ≡ Some file → (before : FileState) × (o ≡ Some before)
-was_there None p file rises is = absurd (some_not_none p file rises is)
+was_there None p file rises is = absurd (no_some p file rises is)
 was_there (Some before) p file rises is = (before, refl)
 
 module _ (s t : Standing) (b : Beginning) (a : Account) (h : Stands s b a) (partition : t.partition ≡ s.partition) (next_chunk : t.next_chunk ≡ s.next_chunk)

@@ -20,7 +20,8 @@ use Rattle.writer_files.specs.StockCalls.{AppendsAny, BeginsAny, Extends, Extend
 use Rattle.writer_files.proofs.ClassLaws.{same_class_or_not}
 use Rattle.partition_writer.specs.Standing.{chosen, name_or, writer_kind}
 use Rattle.partition_writer.specs.Storing.{AddsEmpty, Fills, IsBelow, IsNamedFor, IsUntorn, NamesOwn, StoresIn, size_of, without_offset}
-use Rattle.partition_writer.proofs.FileLaws.{class_of_writer_kind, some_not_none, some_same}
+use Rattle.dir_files.proofs.JoinLaws.{no_some}
+use Rattle.partition_writer.proofs.FileLaws.{class_of_writer_kind, some_same}
 use Rattle.partition_writer.proofs.StoreLaws.{adds_after, kept_after}
 
 -- ---- one lane changes
@@ -218,7 +219,7 @@ kept_ready old new ready keeps class chunk is =
     before.2.torn ∙ ready class before.0 before.1
 
 was_before : (o p : Option FileState) (file : FileState) → Rises o p → p ≡ Some file → (before : FileState) × (o ≡ Some before)
-was_before None p file rises is = absurd (some_not_none p file rises is)
+was_before None p file rises is = absurd (no_some p file rises is)
 was_before (Some before) p file rises is = (before, refl)
 
 pub kept_below : (old new : Files) (number : ℕ) → IsBelow old number → EachRises old new → IsBelow new number

@@ -7,8 +7,8 @@ use Rattle.partition_writer.specs.Standing.{Standing}
 
 module _ {F File : Type 0} {g : FolderGhosts F File} {h : NamedGhosts File} where
   -- its port as it is
-  abbrev pub stock_port : Writer F File g h → F
-  stock_port writer = files_port writer.files
+  abbrev pub port_of : Writer F File g h → F
+  port_of writer = files_port writer.files
 
   abbrev pub standing : Writer F File g h → Standing
   standing writer = record {

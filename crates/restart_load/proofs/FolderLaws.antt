@@ -15,15 +15,13 @@ use Rattle.dir_files.specs.Files.{FileState, IsDurable, KeepsMore, Rises}
 use Rattle.dir_files.specs.Images.{KeepsFront, KeepsImages, MayLeave, read_of}
 use Rattle.dir_files.specs.Ports.{IsListing, Port, SamePort, either_file}
 use Rattle.dir_files.specs.PortStates.{IsAtRest, IsGivenBack}
+use Rattle.dir_files.proofs.JoinLaws.{no_some}
 use Rattle.restart_load.specs.Contents.{AreFilesOf, FileBytes, InNameOrder}
 use Rattle.restart_load.specs.Reading.{IsFirstLarge, IsFolderRefusal, IsLarge, StandsLargeAt}
 use Rattle.restart_load.specs.Refusals.{IsFirstName, IsTooLarge}
 use Rattle.restart_load.specs.Taking.{AllDurableWith, AreApart, HasTaken, TakenFile, read_bytes, in_hand}
 use Rattle.restart_load.specs.declared.refusal.RestartRefusal.{RestartRefusal}
 use Rattle.restart_load.specs.declared.refusal.RestartRefusal.TheVariants.{Memory, DiskFault, Partition, TooLarge, Damaged, Clash}
-
-none_some : {A : Type 0} (o : Option A) (x : A) → o ≡ None → o ≡ Some x → ⊥
-none_some o x none some = cc
 
 one_some : {A : Type 0} {x y : A} → Some x ≡ Some y → x ≡ y
 one_some e = cc
@@ -113,7 +111,7 @@ itself (a ∷ files) zero d apart below = in_hand_here a files
 itself (a ∷ files) (suc k) d apart below =
     let t : TakenFile = get_or files k d in
     let there : in_hand files t.name ≡ Some t.file = itself files k d apart.1 (omega (arith, below)) in
-    in_hand_past a files t.name (is_name-other t.name a.name (λ same. none_some (in_hand files a.name) t.file apart.0 (ap (in_hand files) (sym same) ∙ there))) ∙ there
+    in_hand_past a files t.name (is_name-other t.name a.name (λ same. no_some (in_hand files a.name) t.file apart.0 (ap (in_hand files) (sym same) ∙ there))) ∙ there
 
 bytes_from : (old : Option FileState) (file : FileState) → Rises old (Some file) → option_map (λ (f : FileState). f.bytes) old ≡ Some file.bytes
 bytes_from None file rises = cc

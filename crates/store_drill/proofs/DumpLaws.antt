@@ -14,6 +14,7 @@ use Rattle.dir_files.specs.Ports.{Port, either_file}
 use Rattle.dir_files.specs.PortStates.{IsAtRest, IsGivenBack}
 use Rattle.dir_files.specs.Files.{FileState}
 use Rattle.hr_base.specs.declared.name.ChunkName.{ChunkName}
+use Rattle.dir_files.proofs.JoinLaws.{either_same}
 use Rattle.crash_law.specs.Restarts.{AllRestart}
 use Rattle.ram_map.specs.Nested.{triple_of}
 use Rattle.script_text.specs.Dumps.{dump_lines, entry_text, lines_of_maps}
@@ -161,10 +162,6 @@ written_of ended p q m n a b here same wrote =
 none_at : (writers : List Standing) (o : Option Standing) (name : ChunkName) → ((s : Standing) → o ≡ Some s → files_in (Some s) name ≡ None) → files_in o name ≡ None
 none_at writers None name none = refl
 none_at writers (Some s) name none = none s refl
-
-either_same : (own other : Option FileState) → other ≡ None → either_file own other ≡ own
-either_same None other none = none
-either_same (Some file) other none = refl
 
 -- where no writer has a file
 pub closed_keeps : (tells : Bool) (image : Image) (writers : List Standing) (old new : Port) → AreResumed tells image writers → tells ≡ true → IsAtRest old → IsGivenBack new

@@ -32,6 +32,7 @@ use Rattle.restart_load.specs.declared.refusal.RestartRefusal.TheVariants as ref
 use Rattle.restart_load.specs.declared.ended.Ended.{Ended}
 use Rattle.restart_load.specs.declared.ended.Ended.TheVariants.{Load}
 use Rattle.hr_base.specs.declared.limits.Limits.{Limits}
+use Rattle.dir_files.proofs.JoinLaws.{either_same, no_some}
 use Rattle.store_drill.specs.Accounts.{accounts_at}
 use Rattle.store_drill.specs.Numbers.{SessionStart, numbers_at}
 use Rattle.store_drill.specs.Playing.{Played}
@@ -40,59 +41,7 @@ use Rattle.store_drill.specs.Writers.{EachFits, HasMaps, HasNumber, HaveStart, I
 use Rattle.store_drill.proofs.StepLaws.{none_unless, same_numbers}
 use Rattle.store_drill.proofs.WriterListLaws.{get_at_end}
 
-no_some : {A : Type 0} (o : Option A) (x : A) → o ≡ None → o ≡ Some x → ⊥
-no_some o x none some = cc
-
-either_none : (own other : Option FileState) → own ≡ None → either_file own other ≡ other
-either_none None other none = refl
-either_none (Some file) other none = cc
-
-either_same : (own other : Option FileState) → other ≡ None → either_file own other ≡ own
-either_same None other none = none
-either_same (Some file) other none = refl
-
 -- ---- a writer is closed
-
-found_of : (held removed : Option FileState) → removed ≡ None → (is_some held || is_some removed) ≡ true → (file : FileState) × (held ≡ Some file)
-found_of (Some file) removed none is = (file, refl)
-found_of None None none is = cc
-found_of None (Some file) none is = cc
-
-absent_of : (held removed : Option FileState) → removed ≡ None → ((file : FileState) → held ≡ Some file → ⊥) → (is_some held || is_some removed) ≡ false
-absent_of (Some file) removed none never = absurd (never file refl)
-absent_of None None none never = refl
-absent_of None (Some file) none never = cc
-
-not_both : (b : Bool) → b ≡ false → b ≡ true → ⊥
-not_both b f t = cc
-
--- the folder can take its port in, where no file of it is there
-pub can_join : (a b : Port) (files : Files) → IsGivenBack a → IsGivenBack b → ((name : ChunkName) → b.held name ≡ files name)
-    → ((name : ChunkName) (file : FileState) → files name ≡ Some file → a.held name ≡ None) → CanJoin a b
-can_join a b files given given' held apart = record {
-  apart = λ n there.
-      let found = found_of (a.held n) (a.gone n) (given.gone n) there in
-      absent_of (b.held n) (b.gone n) (given'.gone n) (λ file is. no_some (a.held n) found.0 (apart n file (sym (held n) ∙ is)) found.1);
-  lent_apart = λ n out. absurd (not_both (a.lent n) (given.calm.lent n) out);
-  foreign_apart = λ n out. absurd (not_both (a.foreign n) (given.calm.foreign n) out);
-  lent_here = λ n out there. absurd (not_both (a.lent n) (given.calm.lent n) out);
-  lent_there = λ n out there. absurd (not_both (b.lent n) (given'.calm.lent n) out);
-}
-
-neither : (a b x y : Bool) → a ≡ false → b ≡ false → ((a && x) || (b && y)) ≡ false
-neither false false x y e f = refl
-neither false true x y e f = cc
-neither true b x y e f = cc
-
--- and nothing is out afterwards
-pub given_back_joined : (a b new : Port) → IsGivenBack a → IsGivenBack b → Joins a b new → IsGivenBack new
-given_back_joined a b new given given' joins = record {
-  calm = record {
-    lent = λ n. joins.lent n ∙ neither (a.lent n) (b.lent n) (not (b.foreign n)) (not (a.foreign n)) (given.calm.lent n) (given'.calm.lent n);
-    foreign = λ n. joins.foreign n ∙ neither (a.foreign n) (b.foreign n) (not (b.lent n)) (not (a.lent n)) (given.calm.foreign n) (given'.calm.foreign n);
-  };
-  gone = λ n. joins.gone n ∙ either_none (a.gone n) (b.gone n) (given.gone n) ∙ given'.gone n;
-}
 
 -- ---- writers are closed, the last one first
 

@@ -13,7 +13,8 @@ use Rattle.value_chunk.specs.Calls.{IsTold, IsChunkKept, synced_chunk}
 use Rattle.writer_chunks.specs.Lanes.{LaneState, chunks, file_among, seen, IsLane}
 use Rattle.writer_chunks.specs.PortFits.{FitsPort}
 use Rattle.writer_chunks.specs.LaneCalls.{EachChunk, EachRises, IsSynced, SyncsEach, SyncsLane}
-use Rattle.writer_chunks.proofs.FileLaws.{Follows, RisesTo, keeps_same, rises_among, seen_rises, zip_all, zip_append, zip_same, zip_weaker}
+use Rattle.dir_files.proofs.JoinLaws.{keeps_same}
+use Rattle.writer_chunks.proofs.FileLaws.{Follows, RisesTo, rises_among, seen_rises, zip_all, zip_append, zip_same, zip_weaker}
 use Rattle.writer_chunks.proofs.FitLaws.{fits_follows}
 use Rattle.writer_chunks.proofs.LaneLaws.{SameName, lane_follows}
 use Rattle.writer_chunks.proofs.SyncLaws.{kept_itself, kept_synced}

@@ -17,7 +17,8 @@ use Rattle.value_chunk.specs.Calls.{IsTold, synced_chunk, marked}
 use Rattle.writer_chunks.specs.Lanes.{LaneState, chunks, file_among, IsLane}
 use Rattle.writer_chunks.specs.PortFits.{FitsPort}
 use Rattle.writer_chunks.specs.LaneCalls.{GivesEach, IsSynced, LeavesFull, SettlesPort, sealed_chunks}
-use Rattle.writer_chunks.proofs.FileLaws.{IsOnce, file_among-append, zip_all, rises_same, rises_beside}
+use Rattle.dir_files.proofs.JoinLaws.{rises_same}
+use Rattle.writer_chunks.proofs.FileLaws.{IsOnce, file_among-append, zip_all, rises_beside}
 use Rattle.writer_chunks.proofs.LaneLaws.{SameName}
 use Rattle.writer_chunks.proofs.LaneSyncLaws.{all_front, all_back, zip_with_all}
 use Rattle.writer_chunks.proofs.GiveLaws.{and_true, gives_more, gives_others, none_gone, once_apart, split_none}

@@ -6,7 +6,7 @@ use Rattle.writer_chunks.proofs.lane.sync_each.Given as goal
 
 abbrev pub invariant-loop-chunk : goal.invariant-loop-chunk
 invariant-loop-chunk g l = record {
-  synced_chunk : AllZip (λ c d. IsTold g.F.Folder.tells (synced_chunk c) d) (take l.chunk-index l.initial.full) (take l.chunk-index l.full);
+  synced : AllZip (λ c d. IsTold g.F.Folder.tells (synced_chunk c) d) (take l.chunk-index l.initial.full) (take l.chunk-index l.full);
   rest : drop l.chunk-index l.full ≡ drop l.chunk-index l.initial.full;
   idle : All (λ c. c.unsynced ≡ false) l.initial.full → (l.full ≡ l.initial.full) × (l.port ≡ l.initial.port);
   port : LeavesPort g.F.Folder false l.initial.port l.port;
