@@ -13,7 +13,7 @@ use std::os::unix::fs::FileExt;
 use std::process::Abort;
 use std::rt::Files;
 use std::test::Fail;
-use std::{env, fs, io, process};
+use std::{env, fs, io, mem, process};
 
 const NAME: ChunkName = ChunkName {
     partition: Partition(3),
@@ -162,12 +162,12 @@ fn call_named(word: &str) -> Option<Call> {
     None
 }
 
-/// A root, the last fork, and a handle.
+/// The port that calls are made at, those that it was forked from, and a handle.
 #[derive(Drop)]
 struct Bench {
     system: System,
-    root: Watched,
-    fork: Option<Watched>,
+    port: Watched,
+    above: Vec<Watched>,
     file: Option<RealFile<Handle>>,
 }
 
@@ -186,104 +186,109 @@ fn told<T: Drop>(system: &System, answer: Result<T, FolderRefusal>) -> Option<T>
     }
 }
 
-/// A call that has the handle.
-fn call_at_file(system: &System, disk: &mut Watched, file: &mut RealFile<Handle>, call: Call) {
-    let answer = match call {
-        Call::Append => append(disk, file, b"bytes"),
-        Call::Sync => sync_file(disk, file),
-        Call::Read => read(disk, file, 0).map(|_read| ()),
-        Call::Mark => {
-            system.note(if mark(disk, file) { "FIXED" } else { "LOOSE" });
-            Ok(())
-        }
-        _ => Ok(()),
-    };
-    told(system, answer);
-}
-
-/// A call that has no handle.
-fn call_at_folder(system: &System, disk: &mut Watched, call: Call) {
-    match call {
-        Call::Names => {
-            told(system, sync_names(disk));
-        }
-        Call::List => {
-            told(system, names(disk));
-        }
-        _ => {}
-    }
-}
-
-/// A call at a port, with the handle that is there before and afterwards.
-fn call_at(
-    system: &System,
-    disk: &mut Watched,
-    file: Option<RealFile<Handle>>,
-    call: Call,
-) -> Option<RealFile<Handle>> {
-    match (call, file) {
-        (Call::Create, _) => told(system, create(disk)),
-        (Call::Take, _) => told(system, take(disk)),
-        (Call::Give, Some(file)) => {
-            give(disk, file);
-            None
-        }
-        (Call::Remove, Some(file)) => told(system, remove(disk, file)).flatten(),
-        (call, Some(mut file)) => {
-            call_at_folder(system, disk, call);
-            call_at_file(system, disk, &mut file, call);
-            Some(file)
-        }
-        (call, None) => {
-            call_at_folder(system, disk, call);
-            None
-        }
-    }
-}
-
 impl Bench {
     fn new(rt: &impl AllocGlobal) -> Result<Bench, AllocError> {
         let system = System::new(rt.alloc())?;
         let path = String::from_str(rt.alloc(), "maps")?;
         Ok(Bench {
-            root: RealFolder::at(system.clone()?, path),
+            port: RealFolder::at(system.clone()?, path),
+            above: Vec::new(rt.alloc()),
             system,
-            fork: None,
             file: None,
         })
     }
 
-    fn fork(&mut self) -> Result<(), Memory> {
-        let made = match &mut self.fork {
-            Some(port) => fork(port)?,
-            None => fork(&mut self.root)?,
-        };
-        self.fork = Some(made);
+    fn take(&mut self) {
+        self.file = told(&self.system, take(&mut self.port));
+    }
+
+    fn create(&mut self) {
+        self.file = told(&self.system, create(&mut self.port));
+    }
+
+    fn append(&mut self) {
+        if let Some(file) = &mut self.file {
+            told(&self.system, append(&mut self.port, file, b"bytes"));
+        }
+    }
+
+    fn sync_file(&mut self) {
+        if let Some(file) = &mut self.file {
+            told(&self.system, sync_file(&mut self.port, file));
+        }
+    }
+
+    fn read(&mut self) {
+        if let Some(file) = &mut self.file {
+            told(&self.system, read(&mut self.port, file, 0));
+        }
+    }
+
+    fn mark(&mut self) {
+        if let Some(file) = &mut self.file {
+            let is_fixed = mark(&self.port, file);
+            self.system.note(if is_fixed { "FIXED" } else { "LOOSE" });
+        }
+    }
+
+    fn give(&mut self) {
+        if let Some(file) = self.file.take() {
+            give(&mut self.port, file);
+        }
+    }
+
+    fn remove(&mut self) {
+        if let Some(file) = self.file.take() {
+            self.file = told(&self.system, remove(&mut self.port, file)).flatten();
+        }
+    }
+
+    fn sync_names(&mut self) {
+        told(&self.system, sync_names(&mut self.port));
+    }
+
+    fn names(&mut self) {
+        told(&self.system, names(&mut self.port));
+    }
+
+    /// From here on calls are made at a fork.
+    fn fork(&mut self) -> Result<(), Fail> {
+        let fork = fork(&mut self.port)?;
+        self.above.push(mem::replace(&mut self.port, fork))?;
         Ok(())
     }
 
-    /// Makes one call: at the last fork where there is one, and at the root otherwise.
+    /// The port that was forked adopts the fork, and calls are made there again.
+    fn adopt(&mut self) {
+        if let Some(above) = self.above.pop() {
+            let fork = mem::replace(&mut self.port, above);
+            adopt(&mut self.port, fork);
+        }
+    }
+
+    fn faults(&self) -> Result<(), AllocError> {
+        let text = faults_of(self.system.alloc(), &self.port)?;
+        self.system.note(text.as_str());
+        Ok(())
+    }
+
+    /// Makes one call.
     fn call(&mut self, call: Call) -> Result<(), Fail> {
         match call {
-            Call::Faults => {
-                let port = self.fork.as_ref().unwrap_or(&self.root);
-                self.system
-                    .note(faults_of(self.system.alloc(), port)?.as_str());
-            }
-            Call::Refuse(what) => self.system.refuse(what),
+            Call::Take => self.take(),
+            Call::Create => self.create(),
+            Call::Append => self.append(),
+            Call::Sync => self.sync_file(),
+            Call::Read => self.read(),
+            Call::Mark => self.mark(),
+            Call::Give => self.give(),
+            Call::Remove => self.remove(),
+            Call::Names => self.sync_names(),
+            Call::List => self.names(),
             Call::Fork => self.fork()?,
-            Call::Adopt => {
-                if let Some(port) = self.fork.take() {
-                    adopt(&mut self.root, port);
-                }
-            }
-            _ => {
-                let file = self.file.take();
-                self.file = match &mut self.fork {
-                    Some(port) => call_at(&self.system, port, file, call),
-                    None => call_at(&self.system, &mut self.root, file, call),
-                };
-            }
+            Call::Adopt => self.adopt(),
+            Call::Faults => self.faults()?,
+            Call::Refuse(what) => self.system.refuse(what),
         }
         Ok(())
     }
@@ -425,12 +430,8 @@ fn append_and_sync(disk: &mut Watched, file: &mut RealFile<Handle>) -> Result<()
 /// Two ports and 70 files that take records.
 #[test]
 fn handles_keep_64_descriptors_at_all_ports_together(rt: HostRuntime) -> Result<(), Fail> {
-    let Bench {
-        system,
-        mut root,
-        fork: _,
-        file: _,
-    } = Bench::new(&rt)?;
+    let system = System::new(rt.alloc())?;
+    let mut root = RealFolder::at(system.clone()?, String::new(rt.alloc()));
     let mut other = fork(&mut root)?;
     let mut files = Vec::new(rt.alloc());
     for _ in 0..35 {
