@@ -12,7 +12,6 @@ use Rattle.hr_edges.proofs.Writings.{Takes-append, Takes-nothing, TakesAtLeast-a
 use Rattle.dir_files.specs.Images.{Image, KeepsImages, read_of}
 use Rattle.dir_files.specs.Ports.{Port, either_file}
 use Rattle.dir_files.specs.PortStates.{IsAtRest, IsGivenBack}
-use Rattle.dir_files.specs.Files.{FileState}
 use Rattle.hr_base.specs.declared.name.ChunkName.{ChunkName}
 use Rattle.dir_files.proofs.JoinLaws.{either_same}
 use Rattle.crash_law.specs.Restarts.{AllRestart}

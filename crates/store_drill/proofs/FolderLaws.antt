@@ -1,5 +1,5 @@
 -- What the writers of a session begin with, how they are closed, and what they leave in the folder.
-use Rattle.std.specs.Prelude.{◌≡◌, ◌⊎◌, ℕ, ◌+◌, ◌-◌, ◌<◌, ◌≤◌, ◌^◌, min, Bool, true, false, ◌&&◌, ◌||◌, not, is_some, List, [], ◌∷◌, ◌++◌, length, Option, Some, None, slice_get, refl}
+use Rattle.std.specs.Prelude.{◌≡◌, ◌⊎◌, ℕ, ◌+◌, ◌-◌, ◌<◌, ◌≤◌, ◌^◌, min, Bool, true, false, List, [], ◌∷◌, ◌++◌, length, Option, Some, None, slice_get, refl}
 use Rattle.std.specs.Option.{option_map}
 use Rattle.std.specs.FinMap.{empty}
 use Rattle.std.proofs.Common.{sym, ◌∙◌, ap, subst, inl, inr, arith, append_assoc}
@@ -8,9 +8,9 @@ use Rattle.std.proofs.lemmas.List.Sums.{sum_by_push}
 use Rattle.std.proofs.lemmas.Option.{slice_get_cases, slice_get_past, slice_get_within}
 use Rattle.hr_base.specs.Entries.{Entries}
 use Rattle.hr_base.specs.declared.name.ChunkName.{ChunkName}
-use Rattle.dir_files.specs.Files.{FileState, Files}
+use Rattle.dir_files.specs.Files.{FileState}
 use Rattle.dir_files.specs.Images.{Image, KeepsImages, read_of}
-use Rattle.dir_files.specs.Ports.{CanJoin, Joins, Port, either_file}
+use Rattle.dir_files.specs.Ports.{Port, either_file}
 use Rattle.dir_files.specs.PortStates.{IsAtRest, IsGivenBack}
 use Rattle.crash_law.specs.Accounts.{Account, fresh_account}
 use Rattle.crash_law.specs.Crashes.{AllSurvive, PartSurvives}

@@ -98,7 +98,11 @@ fn check_lines(alloc: Global, mode: Mode) -> Result<(), Fail> {
     let printed = printed_lines(alloc, LINES.as_bytes(), mode)?;
     expect_text(printed.as_slice(), LINES.as_bytes(), "lines")?;
     let again = printed_lines(alloc, printed.as_slice(), mode)?;
-    expect_text(again.as_slice(), LINES.as_bytes(), "lines that were printed")
+    expect_text(
+        again.as_slice(),
+        LINES.as_bytes(),
+        "lines that were printed",
+    )
 }
 
 #[test]
