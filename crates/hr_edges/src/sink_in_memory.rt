@@ -27,7 +27,8 @@ impl MemSink {
         ensures count { IfOk result (λ sink. ⟦<MemSink as Sink>⟧.count sink ≡ 0) }
         ensures room { IfOk result (λ sink. sink.room ≡ room) }
         ensures most { IfOk result (λ sink. sink.most ≡ usize.MAX) }
-        ensures schedule { IfOk result (λ sink. sink.schedule ≡ record { fails = fails; calls = 0; count = 0 }) }
+        ensures schedule { IfOk result
+            (λ sink. sink.schedule ≡ record { fails = fails; calls = 0; count = 0 }) }
     {
         MemSink::in_steps(alloc, room, fails, usize::MAX)
     }
@@ -43,7 +44,8 @@ impl MemSink {
         ensures count { IfOk result (λ sink. ⟦<MemSink as Sink>⟧.count sink ≡ 0) }
         ensures room { IfOk result (λ sink. sink.room ≡ room) }
         ensures most { IfOk result (λ sink. sink.most ≡ most) }
-        ensures schedule { IfOk result (λ sink. sink.schedule ≡ record { fails = fails; calls = 0; count = 0 }) }
+        ensures schedule { IfOk result
+            (λ sink. sink.schedule ≡ record { fails = fails; calls = 0; count = 0 }) }
     {
         Ok(MemSink {
             bytes: Vec::with_capacity(alloc, room)?,

@@ -59,7 +59,8 @@ fn line_with_two(
     part: &[u8],
     number: u64,
 ) -> Result<Vec<u8>, AllocError>
-    ensures { IfOk result (λ line. line.items ≡ front.now ++ part.now ++ codes " " ++ decimal number ++ codes "\n") }
+    ensures { IfOk result (λ line. line.items
+        ≡ front.now ++ part.now ++ codes " " ++ decimal number ++ codes "\n") }
 {
     let mut buffer = Buffer::new();
     let mut line = Vec::from_slice(alloc, front)?;
@@ -121,7 +122,8 @@ pub fn tell<K: Sink>(alloc: Global, outcome: Outcome, out: &mut K) -> u8
     ensures told { Tells outcome result (K.taken out.old) (K.taken out.new) }
     ensures silent { last_line outcome ≡ [] → result ≡ status_of outcome }
     ensures untouched { last_line outcome ≡ [] → out.new ≡ out.old }
-    ensures sink { result ≡ 4 → (outcome ≡ Outcome.Ended Ended.Sink) ⊎ Rose (K.count out.old) (K.count out.new) }
+    ensures sink { result ≡ 4
+        → (outcome ≡ Outcome.Ended Ended.Sink) ⊎ Rose (K.count out.old) (K.count out.new) }
     ensures kept { K.count out.old ≤ K.count out.new }
 {
     match text(alloc, outcome) {
