@@ -24,6 +24,3 @@ pub use source_in_memory::MemSource;
 pub use source_of_std::StdSource;
 pub use unfailing::{EndlessSource, NullSink};
 pub use writing::write_all;
-
-#[cfg(test)]
-mod tests;

@@ -76,6 +76,19 @@ impl MemFolder {
         self.chain.lends()
     }
 
+    /// Whether a file of this name may be created here: none is held, lent or foreign, and none may come back.
+    pub fn is_free(&self, name: ChunkName) -> bool
+        ensures free { result ≡ true → IsFreeName (⟦<MemFolder as Folder>⟧.port self.now) name }
+        ensures taken { result ≡ false → IsFreeName (⟦<MemFolder as Folder>⟧.port self.now) name → ⊥ }
+    {
+        match self.chain.entry(name) {
+            None => true,
+            Some(entry) => {
+                entry.held.is_none() && entry.gone.is_none() && !entry.lent && !entry.foreign
+            }
+        }
+    }
+
     /// The folder after a crash, which has one of its outcomes, as `docs/FORMATS.md` states. No call of it fails. It takes
     /// no memory.
     pub fn crash(self, pick: Pick) -> MemFolder
@@ -342,6 +355,3 @@ impl Folder for MemFolder {
         self.chain.merge(slot, node);
     }
 }
-
-#[cfg(test)]
-mod tests;

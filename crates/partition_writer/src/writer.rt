@@ -22,7 +22,7 @@ use hr_base::{
     SEQ_END, Seq,
 };
 use ram_map::RamMap;
-use record_format::{Record, encode};
+use record_format::{Record, copied_together, encode};
 use std::alloc::Global;
 use writer_files::WriterFiles;
 
@@ -40,23 +40,27 @@ fn record_len(class: Class, key: usize, value: usize) -> u64
     header + key as u64 + value as u64
 }
 
-/// The record of a put, which shares the value.
+/// The record of a put, and its value once more. Both are of one block, to which key and value are copied.
 fn value_record(
     alloc: Global,
     next: u64,
     prefix: u64,
     key: &[u8],
-    value: &Bytes,
-) -> Result<Record, WriteRefusal>
-    ensures ok { IfOk result (λ rec. rec ≡ put_record next prefix key.now value.now) }
+    value: &[u8],
+) -> Result<(Record, Bytes), WriteRefusal>
+    ensures made { IfOk result (λ made. made.0 ≡ put_record next prefix key.now value.now) }
+    ensures shared { IfOk result (λ made. made.1 ≡ value.now) }
     ensures err { IfErr result (λ e. e ≡ WriteRefusal.Memory) }
 {
-    Ok(Record::Value {
+    let (key, value) = copied_together(alloc, key, value)?;
+    let shared = value.clone()?;
+    let rec = Record::Value {
         seq: Seq(next),
         prefix,
-        key: Bytes::copy_from_slice(alloc, key)?,
-        value: value.clone()?,
-    })
+        key,
+        value,
+    };
+    Ok((rec, shared))
 }
 
 /// The record of a removal.
@@ -260,8 +264,7 @@ impl<F: Folder> Writer<F> {
             return Err(refused);
         }
         let own = self.map.reserve(prefix, key)?;
-        let shared = Bytes::copy_from_slice(self.alloc, value)?;
-        let rec = value_record(self.alloc, self.next, prefix, key, &shared)?;
+        let (rec, shared) = value_record(self.alloc, self.next, prefix, key, value)?;
         self.write(Class::Value, rec)?;
         Ok(self.map.set(prefix, own, shared))
     }

@@ -14,6 +14,11 @@ pub record NotesFault (refused : Bool) (old new : Faults) : Type 0 where
   pub kept : IsSome old.first → new.first ≡ old.first
   pub clean : refused ≡ false → new.first ≡ old.first
 
+-- what a call made of a port's lock: one that is there stays, and a call that was answered was made under one
+pub record HoldsLock {Lock : Type 0} (answered : Bool) (old new : Option Lock) : Type 0 where
+  pub kept : IsSome old → new ≡ old
+  pub held : answered ≡ true → IsSome new
+
 -- the first error, or the second where there is no first
 abbrev pub first_of : Option DiskError → Option DiskError → Option DiskError
 first_of None second = second

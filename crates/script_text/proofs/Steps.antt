@@ -1,15 +1,9 @@
 -- The steps of reading a script, one text after another.
-use Rattle.std.proofs.Common.{◌≡◌, ◌+◌, ℕ, List, [], ◌∷◌, ◌++◌, All, map, length, Result, Ok, Err, is_ok, is_err, false, cond, sym, ap, ◌∙◌, append_assoc}
-use Rattle.std.proofs.lemmas.Bool.{false≢true}
+use Rattle.std.proofs.Common.{◌≡◌, ◌+◌, ℕ, List, [], ◌∷◌, ◌++◌, All, map, length, sym, ap, ◌∙◌, append_assoc}
 use Rattle.std.proofs.lemmas.List.{append-nil, nil_from_length, map_push}
 use Rattle.script_text.specs.declared.line.Line.{Line}
 use Rattle.script_text.specs.declared.line.Mode.{Mode}
 use Rattle.script_text.specs.Lines.{IsLine, IsScript, IsFirstBad, line_text, line_texts}
-
--- a push that did not fail
-pub pushed_items : {A E : Type 0} (r : Result A E) (old new more : List Line) → false ≡ is_err r → new ≡ cond (is_ok r) (old ++ more) old → new ≡ old ++ more
-pushed_items (Ok x) old new more ok items = items
-pushed_items (Err e) old new more ok items = absurd (false≢true ok)
 
 -- one text more was read
 pub one_more : (bytes rest text after : List ℕ) (lines : List Line) (line : Line) → line_texts bytes ≡ map line_text lines ++ line_texts rest → line_texts rest ≡ text ∷ line_texts after → text ≡ line_text line → line_texts bytes ≡ map line_text (lines ++ line ∷ []) ++ line_texts after

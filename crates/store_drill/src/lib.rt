@@ -6,8 +6,6 @@ pub mod laws;
 mod lines;
 mod session;
 mod step;
-#[cfg(test)]
-mod tests;
 mod writers;
 
 pub use dumping::dump;

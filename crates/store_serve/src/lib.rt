@@ -5,8 +5,6 @@ mod outcome;
 mod script;
 mod serving;
 mod telling;
-#[cfg(test)]
-mod tests;
 
 pub use outcome::Outcome;
 pub use serving::serve;

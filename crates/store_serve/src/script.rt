@@ -30,5 +30,5 @@ pub fn read_lines<S: Source>(
     ensures kept { S.count input.old ≤ S.count input.new }
 {
     let bytes = read_all(alloc, input, MAX_SCRIPT_LEN)?;
-    Ok(read_script(alloc, bytes.as_slice(), Mode::Play, partitions)?)
+    Ok(read_script(bytes, Mode::Play, partitions)?)
 }

@@ -51,7 +51,7 @@ fn play_script<F: Folder, S: Source, K: Sink>(
     ensures sink_kept { K.count out.old ≤ K.count out.new }
 {
     match read_lines(alloc, input, limits.partitions) {
-        Ok(script) => Outcome::Ended(play(alloc, script.lines(), limits, folder, out)),
+        Ok(script) => Outcome::Ended(play(alloc, &script, limits, folder, out)),
         Err(outcome) => outcome,
     }
 }

@@ -172,6 +172,3 @@ impl<F: Folder> Filling<F> {
         (name, file, size)
     }
 }
-
-#[cfg(test)]
-mod tests;

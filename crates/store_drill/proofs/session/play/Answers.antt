@@ -11,7 +11,7 @@ use Rattle.store_drill.proofs.FolderLaws.{not_begun, ran_after}
 use Rattle.store_drill.proofs.session.play.Goals as goal
 
 pub play_restarted-requires-clause-valid : goal.play_restarted-requires-clause-valid
-play_restarted-requires-clause-valid g c = subst (λ (partitions : ℕ). All (IsLine Play partitions) c.args.lines.now) (sym c.in-Ok.ensures.each) c.requires.valid
+play_restarted-requires-clause-valid g c = subst (λ (partitions : ℕ). All (IsLine Play partitions) c.args.script.now) (sym c.in-Ok.ensures.each) c.requires.valid
 
 pub play_restarted-requires-clause-resumed : goal.play_restarted-requires-clause-resumed
 play_restarted-requires-clause-resumed g c =
@@ -25,7 +25,7 @@ play_restarted-requires-clause-restartable g c = λ y.
 
 pub returns-in-Ok-clause-ran : goal.returns-in-Ok-clause-ran
 returns-in-Ok-clause-ran g c =
-    ran_after g.F.Folder.tells c.args.limits.now c.args.lines.now (g.F.Folder.port c.args.folder.now) (g.F.Folder.port c.restart.new.folder) _ (g.F.Folder.count c.restart.new.folder)
+    ran_after g.F.Folder.tells c.args.limits.now c.args.script.now (g.F.Folder.port c.args.folder.now) (g.F.Folder.port c.restart.new.folder) _ (g.F.Folder.count c.restart.new.folder)
     _ (outside g.F.Folder g.K.Sink c.play_restarted.new.folder c.play_restarted.new.out) c.play_restarted.result c.restart.ensures.images
     (c.play_restarted.ensures.session c.args.limits.now
     c.in-Ok.ensures.limits c.in-Ok.ensures.each)
@@ -36,3 +36,8 @@ returns-in-Err-clause-ran g c =
 
 pub returns-in-Ok-clause-disk : goal.returns-in-Ok-clause-disk
 returns-in-Ok-clause-disk g c = λ is. omega (arith, c.restart.ensures.kept, c.play_restarted.ensures.disk is)
+
+-- there was no memory for the lines, and nothing was touched
+pub returns-in_default-clause-ran : goal.returns-in_default-clause-ran
+returns-in_default-clause-ran g c =
+    inl (record { refusal = tt; silent = refl; content = λ y refusal e. cc; images = λ y. record { read = λ name. refl; images = λ image is. is } })
