@@ -43,9 +43,11 @@ fetched_more (Some all) mid new read into n w g u = fetched_past all mid new rea
 pub fetched_length : (read into : List ℕ) (n : ℕ) → n ≤ length into → length (read ++ take n into) ≡ length read + n
 fetched_length read into n within = length-append read (take n into) ∙ ap (λ (k : ℕ). length read + k) (length-take-le n into within)
 
--- the buffer has what the call put into it
-pub written_back : (into rest : List ℕ) (size : ℕ) → size ≡ length into → take size (into ++ rest) ≡ into
-written_back into rest size whole = ap (λ (n : ℕ). take n (into ++ rest)) whole ∙ take-append_seam into rest
+-- the buffer has what the call put into it, and a front of it stands behind what was read before
+pub fetched_behind : (new read into rest buffer : List ℕ) (n size : ℕ) → new ≡ read ++ take n buffer → buffer ≡ take size (into ++ rest) → size ≡ length into → new ≡ read ++ take n into
+fetched_behind new read into rest buffer n size behind put whole =
+    let same : buffer ≡ into = put ∙ ap (λ (k : ℕ). take k (into ++ rest)) whole ∙ take-append_seam into rest in
+    behind ∙ ap (λ (b : List ℕ). read ++ take n b) same
 
 -- a call gave nothing to a buffer with room, so all were read
 pub fetched_all : (old mid : Option (List ℕ)) (read into : List ℕ) (n : ℕ) → Fetched old mid read → IfSome mid (λ bytes. n ≡ 0 → 0 < length into → bytes ≡ [])

@@ -1,5 +1,5 @@
 use Rattle.std.proofs.Common.{◌≡◌, ◌<◌, ◌++◌, ℕ, List, Option, length, take, arith, ap, subst, sym, ◌∙◌}
-use Rattle.hr_edges.proofs.Readings.{Fetched, fetched_all, fetched_end, fetched_few, fetched_length, fetched_more, fetched_much, fetched_none, written_back}
+use Rattle.hr_edges.proofs.Readings.{Fetched, fetched_all, fetched_behind, fetched_end, fetched_few, fetched_length, fetched_more, fetched_much, fetched_none}
 use Rattle.hr_edges.proofs.reading.read_all.Goals as goal
 
 pub loop-bytes-init : goal.loop-bytes-init
@@ -42,7 +42,7 @@ loop-bytes-preserved g c =
     let more = fetched_more _ _ _ _ _ _ c.loop-bytes.invariant.read c.in_ok-taken.ensures.given c.read.ensures.untold in
     let size : c.loop-bytes.buffer.len ≡ length c.read.new.into = omega (arith, c.read.auto.into, c.as_mut_slice.ensures.len) in
     let same : c.extend_from_slice.new.self.items ≡ c.loop-bytes.bytes.items ++ take c.in_ok-taken.taken c.read.new.into =
-    c.in_ok-extend_from_slice.ensures.items ∙ ap (λ (b : List ℕ). c.loop-bytes.bytes.items ++ take c.in_ok-taken.taken b) (c.deref.ensures.value ∙ written_back c.read.new.into _ _ size) in
+    fetched_behind _ _ _ _ _ _ _ c.in_ok-extend_from_slice.ensures.items c.deref.ensures.value size in
     let long = ap length same ∙ fetched_length c.loop-bytes.bytes.items c.read.new.into c.in_ok-taken.taken c.in_ok-taken.ensures.bound in
     record {
       buffer = c.loop-bytes.invariant.buffer;
