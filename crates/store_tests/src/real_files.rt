@@ -331,7 +331,7 @@ const ROWS: [Row; 16] = [
         wanted: " create = open lock new append = write sync = fdatasync names = fsync give = close",
     },
     Row {
-        name: "a restart syncs names, and each file that it reads",
+        name: "a file that is read stays open up to its sync",
         calls: "names list take read sync give",
         wanted: " names = open lock fsync list = readdir take = read = open read sync = fdatasync close give =",
     },
