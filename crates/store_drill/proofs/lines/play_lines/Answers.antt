@@ -93,8 +93,7 @@ returns-in-Err-clause-played g c =
 pub script-preserved : goal.script-preserved
 script-preserved g c =
     let next = next_line (left c.args.lines.now) c.script.invariant.0 (line_of_view c.line.result) (left c.advance.new.self) (c.script.invariant.2 ∙ c.advance.ensures.more c.script-test.true ∙ ap (λ (x : Line). x ∷ left c.advance.new.self) (sym c.line.ensures)) in
-    let plays : PlaysAmong g.F.Folder.tells Answered (line_of_view c.line.result) (standings c.script.writers) (standings c.answer.new.writers) c.answer.new.text.items = c.in-Answered.ensures in
-    (
+    let plays : PlaysAmong g.F.Folder.tells Answered (line_of_view c.line.result) (standings c.script.writers) (standings c.answer.new.writers) c.answer.new.text.items = c.in-Answered.ensures in (
       c.script.invariant.0 + 1,
       SoFar-more (left c.args.lines.now) c.script.invariant.0 (line_of_view c.line.result) next.within next.is g.F.Folder.tells Answered _ _ _ _ _ _ c.script.invariant.1 plays _ (λ next e. cc)
           plays.plays.replies.0 plays.plays.replies.1 plays.plays.replies.2 plays.plays.replies.3 plays.plays.account (rw c.as_slice.ensures.value at c.in-Ok.ensures.ok),
