@@ -70,6 +70,31 @@ fn play_restarted<F: Folder, K: Sink>(
     ended
 }
 
+/// Plays lines over a folder, which is restarted first.
+fn play_all<F: Folder, K: Sink>(
+    alloc: Global,
+    lines: &mut Lines<'_>,
+    limits: &Limits,
+    folder: &mut F,
+    out: &mut K,
+) -> Ended
+    requires limits { IsLimits limits.now }
+    requires valid { All (IsLine Play limits.now.partitions) (left lines.old) }
+    requires calm { F.tells ≡ true → IsCalm (F.port folder.old) }
+    ensures calm { F.tells ≡ true → IsCalm (F.port folder.new) }
+    ensures ran { Ran F.tells limits.now (left lines.old) (outside ⟦<F as Folder>⟧ ⟦<K as Sink>⟧ folder.old out.old)
+        (outside ⟦<F as Folder>⟧ ⟦<K as Sink>⟧ folder.new out.new) result }
+    ensures disk { result ≡ Ended.Disk → Rose (F.count folder.old) (F.count folder.new) }
+    ensures sink { result ≡ Ended.Sink → Rose (K.count out.old) (K.count out.new) }
+    ensures kept { F.count folder.old ≤ F.count folder.new }
+    ensures sink_kept { K.count out.old ≤ K.count out.new }
+{
+    match restart(alloc, folder, limits) {
+        Ok(writers) => play_restarted(alloc, lines, folder, out, writers),
+        Err(refusal) => Ended::from(refusal),
+    }
+}
+
 /// Plays the lines of a script over a folder, which is restarted first, with a writer for each partition. Each reply is
 /// written after its line. At the end every file is given back.
 pub fn play<F: Folder, K: Sink>(
@@ -92,11 +117,8 @@ pub fn play<F: Folder, K: Sink>(
     ensures kept { F.count folder.old ≤ F.count folder.new }
     ensures sink_kept { K.count out.old ≤ K.count out.new }
 {
-    let Ok(mut lines) = script.lines(alloc) else {
-        return Ended::Memory;
-    };
-    match restart(alloc, folder, limits) {
-        Ok(writers) => play_restarted(alloc, &mut lines, folder, out, writers),
-        Err(refusal) => Ended::from(refusal),
+    match script.lines(alloc) {
+        Ok(mut lines) => play_all(alloc, &mut lines, limits, folder, out),
+        Err(_refused) => Ended::Memory,
     }
 }
