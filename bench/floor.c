@@ -1,8 +1,10 @@
-// A plain log of maps, to measure the program against: hash maps in memory, and one file that is only appended to.
-//   floor FOLDER play < SCRIPT > REPLIES    plays a script, with the same replies as the program
-//   floor FOLDER load > TEXT                prints the maps of the log, as the program's `dump` does
-// A command that changes a map is one write(2), a sync one fdatasync(2). It keeps no promise beyond that: nothing in the
-// log is checked but lengths. Any failure ends it with status 1.
+// A plain log of maps, to measure the program against: hash maps in memory, and files that are only appended to.
+//   floor FOLDER play [apart] < SCRIPT > REPLIES    plays a script, with the same replies as the program
+//   floor FOLDER load [apart] > TEXT                prints the maps of the log, as the program's `dump` does
+// There is one log for all partitions, or with `apart` one for each, so that a sync is of its partition's log alone. A
+// command that changes a map is one write(2), a sync one fdatasync(2), of a log of its own only where something was
+// appended to it. It keeps no promise beyond that: nothing in a log is checked but lengths. Any failure ends it with
+// status 1.
 #include <fcntl.h>
 #include <stdarg.h>
 #include <stdbool.h>
@@ -251,7 +253,26 @@ struct header {
     uint8_t unused[6];
 };
 
-static int log_file;
+static const char *folder;
+static bool apart;
+static int logs[PARTITIONS];         // less than 0: not there yet
+static bool unsynced[PARTITIONS];
+
+// The place of the log that a partition's records go to.
+static unsigned log_of(uint8_t partition) { return apart ? partition : 0; }
+
+// Opens a log, where it is there or is to be made.
+static void open_log(unsigned place, int flags) {
+    char path[4096];
+    int length = apart ? snprintf(path, sizeof path, "%s/log-%02u", folder, place) : snprintf(path, sizeof path, "%s/log", folder);
+    if (length >= (int)sizeof path) {
+        stop("the path is too long");
+    }
+    logs[place] = open(path, O_RDWR | O_APPEND | flags, 0644);
+    if (logs[place] < 0 && (flags & O_CREAT) != 0) {
+        stop("%s can't be opened", path);
+    }
+}
 
 static void append(uint8_t partition, uint8_t form, uint64_t map, struct bytes key, struct bytes value) {
     static char record[sizeof(struct header) + MOST_KEY + MOST_VALUE];
@@ -259,7 +280,12 @@ static void append(uint8_t partition, uint8_t form, uint64_t map, struct bytes k
     memcpy(record, &header, sizeof header);
     memcpy(record + sizeof header, key.at, key.length);
     memcpy(record + sizeof header + key.length, value.at, value.length);
-    write_all(log_file, record, sizeof header + key.length + value.length);
+    unsigned place = log_of(partition);
+    if (logs[place] < 0) {
+        open_log(place, O_CREAT);
+    }
+    write_all(logs[place], record, sizeof header + key.length + value.length);
+    unsynced[place] = true;
 }
 
 static void redo(const struct header *header, const char *at) {
@@ -291,21 +317,17 @@ static size_t redo_whole(const char *at, size_t length) {
     return done;
 }
 
-// Opens the log, and does again what it says. A torn record at its end is cut off.
-static void open_log(const char *folder) {
-    char path[4096];
-    if (snprintf(path, sizeof path, "%s/log", folder) >= (int)sizeof path) {
-        stop("the path is too long");
-    }
-    log_file = open(path, O_RDWR | O_APPEND | O_CREAT, 0644);
-    if (log_file < 0) {
-        stop("%s can't be opened", path);
+// Does again what a log says, where it is there. A torn record at its end is cut off.
+static void redo_log(unsigned place) {
+    open_log(place, 0);
+    if (logs[place] < 0) {
+        return;
     }
     char *buffer = NULL;
     size_t size = 2 * PIECE + MOST_KEY, length = 0, whole = 0;
     buffer = grown(buffer, size);
     ssize_t came;
-    while ((came = read(log_file, buffer + length, size - length)) > 0) {
+    while ((came = read(logs[place], buffer + length, size - length)) > 0) {
         length += (size_t)came;
         size_t done = redo_whole(buffer, length);
         whole += done;
@@ -313,9 +335,29 @@ static void open_log(const char *folder) {
         memmove(buffer, buffer + done, length);
     }
     free(buffer);
-    if (came < 0 || (length > 0 && ftruncate(log_file, (off_t)whole) != 0)) {
-        stop("%s can't be read", path);
+    if (came < 0 || (length > 0 && ftruncate(logs[place], (off_t)whole) != 0)) {
+        stop("log %u can't be read", place);
     }
+}
+
+static void redo_logs(void) {
+    for (unsigned place = 0; place < (apart ? PARTITIONS : 1); place++) {
+        redo_log(place);
+    }
+}
+
+static void sync_log(uint8_t partition) {
+    unsigned place = log_of(partition);
+    if (apart && !unsynced[place]) {
+        return;
+    }
+    if (logs[place] < 0) {
+        open_log(place, O_CREAT);
+    }
+    if (fdatasync(logs[place]) != 0) {
+        stop("a sync failed");
+    }
+    unsynced[place] = false;
 }
 
 // ---- playing a script
@@ -423,9 +465,7 @@ static void play_line(void) {
     uint8_t p = (uint8_t)partition;
     struct table *table = &tables[p];
     if (is_word(word, "sync")) {
-        if (fdatasync(log_file) != 0) {
-            stop("a sync failed");
-        }
+        sync_log(p);
         print_number(partition);
         print(" synced\n");
         return;
@@ -510,10 +550,12 @@ static void print_table(unsigned partition, const struct table *table) {
 }
 
 int main(int count, char **words) {
-    if (count != 3 || (strcmp(words[2], "play") != 0 && strcmp(words[2], "load") != 0)) {
-        stop("usage: floor FOLDER play|load");
+    apart = count == 4 && strcmp(words[3], "apart") == 0;
+    if (count != (apart ? 4 : 3) || (strcmp(words[2], "play") != 0 && strcmp(words[2], "load") != 0)) {
+        stop("usage: floor FOLDER play|load [apart]");
     }
-    open_log(words[1]);
+    folder = words[1];
+    redo_logs();
     if (strcmp(words[2], "play") == 0) {
         play();
     } else {

@@ -4,7 +4,7 @@ ghost use Rattle.std.specs.Prelude.{◌≡◌, IfOk};
 ghost use Rattle.record_format.specs.Steps.{record_of};
 
 use bytes::Bytes;
-use record_format::{Record, RecordView};
+use record_format::{Record, RecordView, copied_together};
 use std::alloc::{AllocError, Global};
 
 // The record that a view shows, with copies of its key and value.
@@ -33,17 +33,4 @@ pub(crate) fn copied(alloc: Global, view: RecordView<'_>) -> Result<Record, Allo
         }),
         RecordView::Clear { prefix, seq } => Ok(Record::Clear { prefix, seq }),
     }
-}
-
-// Copies of both, which share one block: a block of its own for each would take twice the allocations.
-fn copied_together(alloc: Global, first: &[u8], second: &[u8]) -> Result<(Bytes, Bytes), AllocError>
-    ensures first { IfOk result (λ copies. copies.0 ≡ first.now) }
-    ensures second { IfOk result (λ copies. copies.1 ≡ second.now) }
-{
-    let mut block = Vec::with_capacity(alloc, first.len() + second.len())?;
-    block.extend_from_slice(first)?;
-    block.extend_from_slice(second)?;
-    let mut rest = Bytes::from_vec(block)?;
-    let front = rest.split_to(first.len())?;
-    Ok((front, rest))
 }

@@ -5,8 +5,6 @@ mod chunk;
 mod copies;
 mod records;
 mod refusal;
-#[cfg(test)]
-mod tests;
 
 pub use chunk::{Chunk, read_chunk};
 pub use records::Records;

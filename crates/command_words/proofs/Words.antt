@@ -14,7 +14,7 @@ use Rattle.command_words.specs.declared.table.Verb.TheVariants.{Play, Dump}
 use Rattle.command_words.specs.declared.table.Setting.{Setting}
 use Rattle.command_words.specs.declared.table.Setting.TheVariants.{Partitions, ValueLimit, TombLimit, Percent}
 use Rattle.command_words.specs.Table.{verb_name, settings_of, option_word, default_of, IsNumberFor}
-use Rattle.command_words.specs.Words.{Given, words_of, IsOptions, IsCommand, IsInLimits, HasLimits, is_of, number_of, limits_of, command_of, with_number}
+use Rattle.command_words.specs.Words.{Given, words_of, IsOptions, IsCommand, IsInLimits, GivesLimits, is_of, number_of, limits_of, verb_command, with_number}
 
 abbrev pub Differs : Setting → Given → Type 0
 Differs s given = s ≢ given.setting
@@ -144,8 +144,8 @@ set_over gs Percent n = refl
 -- one more option in front of others
 pub joined : (verb : Verb) (name value : List ℕ) (rest : List (List ℕ)) (s : Setting) (n : ℕ) (others : Limits)
     → Contains (settings_of verb) s → name ≡ option_word s → IsNumberFor s n → value ≡ decimal n
-    → (Contains rest name → ⊥) → HasLimits verb rest others
-    → HasLimits verb (name ∷ value ∷ rest) (with_number others s n)
+    → (Contains rest name → ⊥) → GivesLimits verb rest others
+    → GivesLimits verb (name ∷ value ∷ rest) (with_number others s n)
 joined verb name value rest s n others taken named range spelled absent h =
     let gs : List Given = h.givens in
     let text : rest ≡ flat_map words_of gs = h.read.text in
@@ -197,7 +197,7 @@ ranges_fit givens ranges =
       percent = (fit Percent).most;
     }
 
-pub limits_fit : (verb : Verb) (words : List (List ℕ)) (limits : Limits) → HasLimits verb words limits → IsLimits limits
+pub limits_fit : (verb : Verb) (words : List (List ℕ)) (limits : Limits) → GivesLimits verb words limits → IsLimits limits
 limits_fit verb words limits h = subst IsLimits (sym h.meaning) (ranges_fit h.givens h.read.ranges)
 
 one_given : (a b : Given) → IsInRange a → IsInRange b → option_word a.setting ≡ option_word b.setting → decimal a.number ≡ decimal b.number → a ≡ b
@@ -229,7 +229,7 @@ one_verb Dump Dump e = refl
 one_verb Play Dump e = absurd (omega (arith, ap (λ (xs : List ℕ). get_or xs 0 0) e))
 one_verb Dump Play e = absurd (omega (arith, ap (λ (xs : List ℕ). get_or xs 0 0) e))
 
-in_range : (verb : Verb) (givens : List Given) (command : Command) → All IsInRange givens → command ≡ command_of verb givens → IsInLimits command
+in_range : (verb : Verb) (givens : List Given) (command : Command) → All IsInRange givens → command ≡ verb_command verb givens → IsInLimits command
 in_range Play givens command ranges is = subst IsInLimits (sym is) (ranges_fit givens ranges)
 in_range Dump givens command ranges is = subst IsInLimits (sym is) (ranges_fit givens ranges)
 
@@ -246,5 +246,5 @@ one_meaning words a b x y =
     let options : x.options ≡ y.options = cc in
     let givens : x.givens ≡ y.givens =
     one_givens x.givens y.givens x.read.ranges y.read.ranges (sym x.read.text ∙ (options ∙ y.read.text)) in
-    let same : command_of x.verb x.givens ≡ command_of y.verb y.givens = cc in
+    let same : verb_command x.verb x.givens ≡ verb_command y.verb y.givens = cc in
     x.meaning ∙ (same ∙ sym y.meaning)

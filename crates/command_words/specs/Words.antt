@@ -15,8 +15,8 @@ use Rattle.command_words.specs.declared.table.Setting.TheVariants.{Partitions, V
 use Rattle.command_words.specs.Table.{verb_name, settings_of, option_word, default_of, IsNumberFor}
 
 -- the bytes of each word
-abbrev pub texts_of : {A : Type 0} → List (String A) → List (List ℕ)
-texts_of words = map string_bytes words
+abbrev pub word_texts : {A : Type 0} → List (String A) → List (List ℕ)
+word_texts words = map string_bytes words
 
 -- an option with the number that it is given
 pub record Given : Type 0 where
@@ -53,9 +53,9 @@ limits_of givens = record {
 }
 
 -- what a command is with its options
-abbrev pub command_of : Verb → List Given → Command
-command_of Play givens = command.Play (limits_of givens)
-command_of Dump givens = command.Dump (limits_of givens)
+abbrev pub verb_command : Verb → List Given → Command
+verb_command Play givens = command.Play (limits_of givens)
+verb_command Dump givens = command.Dump (limits_of givens)
 
 -- the words are a folder, of any text, and this command with options
 pub record IsCommand (words : List (List ℕ)) (command : Command) : Type 0 where
@@ -65,10 +65,10 @@ pub record IsCommand (words : List (List ℕ)) (command : Command) : Type 0 wher
   pub givens : List Given
   pub text : words ≡ folder ∷ verb_name verb ∷ options
   pub read : IsOptions verb options givens
-  pub meaning : command ≡ command_of verb givens
+  pub meaning : command ≡ verb_command verb givens
 
 -- the words are options that set these limits
-pub record HasLimits (verb : Verb) (words : List (List ℕ)) (limits : Limits) : Type 0 where
+pub record GivesLimits (verb : Verb) (words : List (List ℕ)) (limits : Limits) : Type 0 where
   pub givens : List Given
   pub read : IsOptions verb words givens
   pub meaning : limits ≡ limits_of givens

@@ -2,6 +2,7 @@
 
 ghost use Rattle.std.specs.Prelude.{◌≡◌, ℕ, List, All, drop};
 ghost use Rattle.command_words.specs.declared.read.Command.{Command};
+ghost use Rattle.command_words.specs.declared.table.TheConstants.{DEFAULT_PARTITIONS, DEFAULT_PERCENT, DEFAULT_TOMB_LIMIT, DEFAULT_VALUE_LIMIT};
 ghost use Rattle.command_words.specs.Words.{IsCommand, IsInLimits, IsLaterWord};
 
 /// Words mean one command at most.
@@ -18,4 +19,12 @@ pub fn limits_in_range()
 pub fn later_words()
     ensures { (words : List (List ℕ)) (command : Command) → IsCommand words command
         → All IsLaterWord (drop 1 words) }
+{}
+
+/// The numbers of options that are not given, as `docs/FORMATS.md` states them.
+pub fn defaults_as_stated()
+    ensures partitions { DEFAULT_PARTITIONS ≡ 8 }
+    ensures value_limit { DEFAULT_VALUE_LIMIT ≡ 8388608 }
+    ensures tomb_limit { DEFAULT_TOMB_LIMIT ≡ 1048576 }
+    ensures percent { DEFAULT_PERCENT ≡ 20 }
 {}

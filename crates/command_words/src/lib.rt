@@ -6,8 +6,6 @@ mod number;
 mod parse;
 mod read;
 mod table;
-#[cfg(test)]
-mod tests;
 mod usage_text;
 
 pub use parse::WordsRefusal;

@@ -6,7 +6,7 @@ ghost use Rattle.clap.specs.declared.builder.command.Command.TheViews.{out-Comma
 ghost use Rattle.command_words.specs.declared.read.Command.{Command};
 ghost use Rattle.command_words.specs.declared.parse.WordsRefusal.{WordsRefusal};
 ghost use Rattle.command_words.specs.Program.{option_rule, program_app, verb_app};
-ghost use Rattle.command_words.specs.Words.{IsCommand, texts_of};
+ghost use Rattle.command_words.specs.Words.{IsCommand, word_texts};
 
 use crate::table::{Setting, Verb};
 use clap::Arg;
@@ -74,9 +74,9 @@ fn program<'a>(alloc: Global) -> Result<clap::Command<'a>, AllocError>
 /// Lets `clap` refuse the words by the names in them: a stray word, a missing value, a name that is unknown or
 /// stands twice.
 pub(crate) fn check_names<'a>(alloc: Global, words: &'a [String]) -> Result<(), WordsRefusal>
-    ensures taken { OnOk result (fault_of program_app (texts_of words.entry.now) ≡ []) }
+    ensures taken { OnOk result (fault_of program_app (word_texts words.entry.now) ≡ []) }
     ensures refused { IsErrOf result WordsRefusal.Words →
-        (command : Command) → IsCommand (texts_of words.entry.now) command → ⊥ }
+        (command : Command) → IsCommand (word_texts words.entry.now) command → ⊥ }
 {
     match program(alloc)?.try_get_matches_from(words) {
         Ok(_) => Ok(()),

@@ -3,7 +3,7 @@
 ghost use Rattle.std.specs.Prelude.{◌≡◌, ◌↔◌, List, IsTrue, IfSome, IfNone, IfOk, IsErrOf, Contains};
 ghost use Rattle.command_words.specs.declared.read.Command.{Command};
 ghost use Rattle.command_words.specs.declared.parse.WordsRefusal.{WordsRefusal};
-ghost use Rattle.command_words.specs.Words.{Given, IsCommand, IsOptions, HasLimits, texts_of, with_number, IsInLimits};
+ghost use Rattle.command_words.specs.Words.{Given, IsCommand, IsOptions, GivesLimits, word_texts, with_number, IsInLimits};
 ghost use Rattle.command_words.specs.Table.{IsNumberFor};
 
 use crate::parse::{WordsRefusal, check_names};
@@ -33,9 +33,9 @@ const DEFAULT_LIMITS: Limits = Limits {
 /// Reads the words after the program's name. Of the folder, which comes first, nothing is made. `clap` refuses what
 /// it can tell by the names; the reading behind it tells all by itself, and refuses also `=`, `--` and wrong numbers.
 pub fn read_words(alloc: Global, words: &[String]) -> Result<Command, WordsRefusal>
-    ensures found { IfOk result (IsCommand (texts_of words.now)) }
+    ensures found { IfOk result (IsCommand (word_texts words.now)) }
     ensures refused { IsErrOf result WordsRefusal.Words →
-        (command : Command) → IsCommand (texts_of words.now) command → ⊥ }
+        (command : Command) → IsCommand (word_texts words.now) command → ⊥ }
     ensures ranges { IfOk result IsInLimits }
 {
     check_names(alloc, words)?;
@@ -44,8 +44,8 @@ pub fn read_words(alloc: Global, words: &[String]) -> Result<Command, WordsRefus
 
 // The command that words mean, if they mean one.
 fn read_command(words: &[String]) -> Option<Command>
-    ensures found { IfSome result (IsCommand (texts_of words.now)) }
-    ensures none { IfNone result ((command : Command) → IsCommand (texts_of words.now) command → ⊥) }
+    ensures found { IfSome result (IsCommand (word_texts words.now)) }
+    ensures none { IfNone result ((command : Command) → IsCommand (word_texts words.now) command → ⊥) }
     ensures ranges { IfSome result IsInLimits }
 {
     let [_folder, name, options @ ..] = words else {
@@ -61,8 +61,8 @@ fn read_command(words: &[String]) -> Option<Command>
 
 // The limits that options with their numbers set.
 fn read_options(verb: Verb, words: &[String]) -> Option<Limits>
-    ensures found { IfSome result (HasLimits verb (texts_of words.now)) }
-    ensures none { IfNone result ((givens : List Given) → IsOptions verb (texts_of words.now) givens → ⊥) }
+    ensures found { IfSome result (GivesLimits verb (word_texts words.now)) }
+    ensures none { IfNone result ((givens : List Given) → IsOptions verb (word_texts words.now) givens → ⊥) }
 {
     match words {
         [] => Some(DEFAULT_LIMITS),
@@ -81,7 +81,7 @@ fn read_options(verb: Verb, words: &[String]) -> Option<Limits>
 
 // Whether a word stands among others.
 fn has_word(words: &[String], word: &[u8]) -> bool
-    ensures { IsTrue result ↔ Contains (texts_of words.now) word.now }
+    ensures { IsTrue result ↔ Contains (word_texts words.now) word.now }
 {
     for other in words {
         if other.as_bytes() == word {

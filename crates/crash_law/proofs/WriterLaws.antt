@@ -21,7 +21,7 @@ use Rattle.crash_law.specs.Placed.{Placed, records_of, in_chunk, IsPlaced, Base,
 use Rattle.crash_law.specs.Crashes.{Recovers, PartSurvives}
 use Rattle.crash_law.specs.Restarts.{RestartsAs}
 use Rattle.crash_law.specs.Growth.{IsOwnBut, HoldsButAt, HoldsBut, PartRises}
-use Rattle.crash_law.specs.Writers.{Start, Written, StandsFor, BeginsWith, CreatesFile, NotesRecord, AppendsRecord, LosesRecord, KeepsRecords, SyncsRecords, IsWholeIn, IsKept}
+use Rattle.crash_law.specs.Writers.{WriterStart, Written, StandsFor, BeginsFrom, CreatesFile, NotesRecord, AppendsRecord, LosesRecord, KeepsRecords, SyncsRecords, IsWholeIn, IsDurableFile}
 use Rattle.crash_law.proofs.CommandLaws.{maps_after-unwritten}
 use Rattle.crash_law.proofs.NumberedLaws.{Rising-more}
 use Rattle.crash_law.proofs.FileLaws.{files_recover, files_read}
@@ -70,7 +70,7 @@ not_found_by (Some bytes) file durable since lost h none = absurd (none_some _ (
 
 -- ---- a writer that begins
 
-pub stand_begun : (w : Written) (b : Start) → BeginsWith w b → StandsFor w b (fresh_account b.maps)
+pub stand_begun : (w : Written) (b : WriterStart) → BeginsFrom w b → StandsFor w b (fresh_account b.maps)
 stand_begun w b begins = record {
   base = begins.base;
   durable = [];
@@ -104,7 +104,7 @@ stand_begun w b begins = record {
 
 -- ---- a writer with no record that may lack bytes
 
-module _ (w : Written) (b : Start) (a : Account) (h : StandsFor w b a) (whole : w.lost ≡ false) where
+module _ (w : Written) (b : WriterStart) (a : Account) (h : StandsFor w b a) (whole : w.lost ≡ false) where
   nothing_lost : h.lost ≡ []
   nothing_lost = nil_from_length h.lost (h.one_lost ∙ ap (λ (x : Bool). if x then 1 else 0) whole)
 
@@ -123,7 +123,7 @@ module _ (w : Written) (b : Start) (a : Account) (h : StandsFor w b a) (whole : 
 
 -- ---- one more record
 
-module _ (w t : Written) (b : Start) (a : Account) (h : StandsFor w b a) (whole : w.lost ≡ false) (x : Placed) (numbered : seq_of x.content ≡ w.next) (notes : NotesRecord w t x) where
+module _ (w t : Written) (b : WriterStart) (a : Account) (h : StandsFor w b a) (whole : w.lost ≡ false) (x : Placed) (numbered : seq_of x.content ≡ w.next) (notes : NotesRecord w t x) where
   more : h.durable ++ t.records ≡ (h.durable ++ w.records) ++ x ∷ []
   more = ap (λ (xs : List Placed). h.durable ++ xs) notes.records ∙ sym (append_assoc h.durable w.records (x ∷ []))
 
@@ -231,7 +231,7 @@ module _ (w t : Written) (b : Start) (a : Account) (h : StandsFor w b a) (whole 
 
 -- ---- a command with its record
 
-own_by : (w : Written) (b : Start) (a : Account) → StandsFor w b a → (name : ChunkName) → name.partition.0 ≡ w.partition → (w.taking name ≡ true) ⊎ (w.files name ≡ None) → b.found name ≡ None
+own_by : (w : Written) (b : WriterStart) (a : Account) → StandsFor w b a → (name : ChunkName) → name.partition.0 ≡ w.partition → (w.taking name ≡ true) ⊎ (w.files name ≡ None) → b.found name ≡ None
 own_by w b a h name of (inl takes) = h.own name takes
 own_by w b a h name of (inr none) = not_found_by (b.found name) (w.files name) _ _ _ (h.holds.at name of) none
 
@@ -240,7 +240,7 @@ written_tail true cs c e = refl
 written_tail false cs c e = cc
 
 -- the disk took it whole
-pub stand_appended : (w t : Written) (b : Start) (a : Account) (x : Placed) → StandsFor w b a → w.lost ≡ false → AppendsRecord w t x (spelling x.content) → t.lost ≡ false
+pub stand_appended : (w t : Written) (b : WriterStart) (a : Account) (x : Placed) → StandsFor w b a → w.lost ≡ false → AppendsRecord w t x (spelling x.content) → t.lost ≡ false
     → t.maps ≡ maps_after (command_of x.content) w.maps → is_written (command_of x.content) w.maps ≡ true → StandsFor t b (answered a (command_of x.content))
 stand_appended w t b a x h whole appends none maps written =
     let own = own_by w b a h x.chunk appends.placed.partition appends.chunk in
@@ -251,7 +251,7 @@ stand_appended w t b a x h whole appends none maps written =
     stands
 
 -- the disk took a front of it
-pub stand_torn : (w t : Written) (b : Start) (a : Account) (x : Placed) (n : ℕ) → StandsFor w b a → w.lost ≡ false → AppendsRecord w t x (take n (spelling x.content)) → t.lost ≡ true
+pub stand_torn : (w t : Written) (b : WriterStart) (a : Account) (x : Placed) (n : ℕ) → StandsFor w b a → w.lost ≡ false → AppendsRecord w t x (take n (spelling x.content)) → t.lost ≡ true
     → t.maps ≡ w.maps → StandsFor t b (refused a (command_of x.content))
 stand_torn w t b a x n h whole appends some maps =
     stand_less w t b a h whole x appends.numbered appends.noted some maps
@@ -259,7 +259,7 @@ stand_torn w t b a x n h whole appends some maps =
     (own_by w b a h x.chunk appends.placed.partition appends.chunk) appends.placed appends.within n appends.files)
 
 -- the disk made no file for it
-pub stand_lost : (w t : Written) (b : Start) (a : Account) (x : Placed) → StandsFor w b a → w.lost ≡ false → LosesRecord w t x → t.lost ≡ true
+pub stand_lost : (w t : Written) (b : WriterStart) (a : Account) (x : Placed) → StandsFor w b a → w.lost ≡ false → LosesRecord w t x → t.lost ≡ true
     → t.maps ≡ w.maps → StandsFor t b (refused a (command_of x.content))
 stand_lost w t b a x h whole loses some maps =
     stand_less w t b a h whole x loses.numbered loses.noted some maps
@@ -268,7 +268,7 @@ stand_lost w t b a x h whole loses some maps =
 
 -- ---- no record
 
-module _ (w t : Written) (b : Start) (a : Account) (h : StandsFor w b a) (keeps : KeepsRecords w t) where
+module _ (w t : Written) (b : WriterStart) (a : Account) (h : StandsFor w b a) (keeps : KeepsRecords w t) where
   kept_order : InOrder b.first h.durable t.records
   kept_order = subst (λ (xs : List Placed). InOrder b.first h.durable xs) (sym keeps.records) h.order
 
@@ -325,7 +325,7 @@ unwritten_tail true cs c e = cc
 unwritten_tail false cs c e = refl
 
 -- a command that changes nothing
-pub stand_unwritten : (w : Written) (b : Start) (a : Account) (c : Command) → StandsFor w b a → is_written c w.maps ≡ false → StandsFor w b (answered a c)
+pub stand_unwritten : (w : Written) (b : WriterStart) (a : Account) (c : Command) → StandsFor w b a → is_written c w.maps ≡ false → StandsFor w b (answered a c)
 stand_unwritten w b a c h unwritten =
     subst (λ (m : Entries). StandsFor w b (record { maps = m; durable = a.durable; tail = if is_written c a.maps then a.tail ++ c ∷ [] else a.tail }))
     (h.maps ∙ sym (maps_after-unwritten c w.maps unwritten) ∙ ap (maps_after c) (sym h.maps))
@@ -334,7 +334,7 @@ stand_unwritten w b a c h unwritten =
 
 -- ---- an answered sync
 
-module _ (w : Written) (b : Start) (a : Account) (h : StandsFor w b a) where
+module _ (w : Written) (b : WriterStart) (a : Account) (h : StandsFor w b a) where
   -- all records in their order, as durable ones
   all_order : InOrder b.first (h.durable ++ w.records) []
   all_order = record {
@@ -348,7 +348,7 @@ module _ (w : Written) (b : Start) (a : Account) (h : StandsFor w b a) where
   }
 
 -- all its records are durable
-pub stand_synced : (w t : Written) (b : Start) (a : Account) → StandsFor w b a → w.lost ≡ false → SyncsRecords w t → StandsFor t b (synced a)
+pub stand_synced : (w t : Written) (b : WriterStart) (a : Account) → StandsFor w b a → w.lost ≡ false → SyncsRecords w t → StandsFor t b (synced a)
 stand_synced w t b a h whole syncs = record {
   base = subst (λ (p : ℕ). Base p b.found b.maps b.first) (sym syncs.partition) h.base;
   durable = h.durable ++ w.records;
@@ -388,7 +388,7 @@ stand_synced w t b a h whole syncs = record {
 -- ---- what it leaves
 
 -- every crash of its files recovers
-pub stand_survives : (w : Written) (b : Start) (a : Account) → StandsFor w b a → PartSurvives w.partition w.files w.gone a
+pub stand_survives : (w : Written) (b : WriterStart) (a : Account) → StandsFor w b a → PartSurvives w.partition w.files w.gone a
 stand_survives w b a h image is =
     subst (λ (m : Entries). Recovers image w.partition m a.tail) (sym h.durable_maps)
     (subst (λ (cs : List Command). Recovers image w.partition (maps_after_all (commands_of (records_of h.durable)) b.maps) cs) (sym h.tail)
@@ -397,7 +397,7 @@ stand_survives w b a h image is =
     h.order image is))
 
 -- and without a record that may lack bytes, what is read of them restarts to its maps
-pub stand_exact : (w : Written) (b : Start) (a : Account) → StandsFor w b a → w.lost ≡ false → RestartsAs (λ name. option_map (λ file. file.bytes) (w.files name)) w.partition a.maps
+pub stand_exact : (w : Written) (b : WriterStart) (a : Account) → StandsFor w b a → w.lost ≡ false → RestartsAs (λ name. option_map (λ file. file.bytes) (w.files name)) w.partition a.maps
 stand_exact w b a h whole =
     subst (λ (m : Entries). RestartsAs (λ name. option_map (λ file. file.bytes) (w.files name)) w.partition m) (sym (all_maps w b a h whole))
     (files_read w.partition b.found b.maps b.first w.files (h.durable ++ w.records) h.base
@@ -432,14 +432,14 @@ whole_in p found files records x whole has =
     (Contains-in_chunk records x has) (whole.at x.chunk (All-contains (IsPlaced p) records x whole.placed has).partition)
 
 -- each record of a writer with none that may lack bytes
-pub stand_whole_in : (w : Written) (b : Start) (a : Account) (x : Placed) → StandsFor w b a → w.lost ≡ false → Contains w.records x → IsWholeIn w.files x
+pub stand_whole_in : (w : Written) (b : WriterStart) (a : Account) (x : Placed) → StandsFor w b a → w.lost ≡ false → Contains w.records x → IsWholeIn w.files x
 stand_whole_in w b a x h whole has =
     whole_in w.partition b.found w.files (h.durable ++ w.records) x
     (holds_whole w.partition b.found w.files w.gone h.durable w.records (holds_all w b a h whole)) (Contains-append_right h.durable w.records x has)
 
 -- ---- where none of its records waits for a sync
 
-own_is_kept : (file : FileState) (rs : List Record) → IsOwnBut (Some file) rs [] [] → IsKept file
+own_is_kept : (file : FileState) (rs : List Record) → IsOwnBut (Some file) rs [] [] → IsDurableFile file
 own_is_kept file rs own = record { front = omega (arith, own.1.1.front, ap length bytes); named = named_by own.1.1.named } where
   nothing : own.1.0 ≡ []
   nothing = nil_from_length own.1.0 (omega (arith, own.1.2))
@@ -454,10 +454,10 @@ own_is_kept file rs own = record { front = omega (arith, own.1.1.front, ap lengt
 one_file : (a b : FileState) → Some a ≡ Some b → a ≡ b
 one_file a b e = cc
 
-found_is_kept : (file : FileState) (bytes : List ℕ) (rs : List Record) → IsAsFound (Some file) bytes rs [] → IsKept file
-found_is_kept file bytes rs was = subst IsKept (sym (one_file file _ was.is)) (record { front = omega arith; named = inr refl })
+found_is_kept : (file : FileState) (bytes : List ℕ) (rs : List Record) → IsAsFound (Some file) bytes rs [] → IsDurableFile file
+found_is_kept file bytes rs was = subst IsDurableFile (sym (one_file file _ was.is)) (record { front = omega arith; named = inr refl })
 
-file_is_kept : (was : Option (List ℕ)) (file : FileState) (rs : List Record) → HoldsButAt was (Some file) rs [] [] → IsKept file
+file_is_kept : (was : Option (List ℕ)) (file : FileState) (rs : List Record) → HoldsButAt was (Some file) rs [] [] → IsDurableFile file
 file_is_kept None file rs own = own_is_kept file rs own
 file_is_kept (Some bytes) file rs found = found_is_kept file bytes rs found
 
@@ -465,7 +465,7 @@ nothing_joined : (xs ys : List Placed) → xs ++ ys ≡ [] → (xs ≡ []) × (y
 nothing_joined [] ys e = (refl, e)
 nothing_joined (x ∷ xs) ys e = absurd (omega (arith, ap length e))
 
-module _ (w : Written) (b : Start) (a : Account) (h : StandsFor w b a) (none : w.records ≡ []) where
+module _ (w : Written) (b : WriterStart) (a : Account) (h : StandsFor w b a) (none : w.records ≡ []) where
   neither : (h.kept ≡ []) × (h.lost ≡ [])
   neither = nothing_joined h.kept h.lost (sym h.records ∙ none)
 
@@ -480,7 +480,7 @@ module _ (w : Written) (b : Start) (a : Account) (h : StandsFor w b a) (none : w
       ∙ ap (λ (xs : List Placed). maps_after_all (commands_of (records_of xs)) b.maps) (sym (ap (λ (xs : List Placed). h.durable ++ xs) neither.0 ∙ append-nil h.durable))
       ∙ sym h.kept_maps
 
-  pub stand_kept : (name : ChunkName) (file : FileState) → name.partition.0 ≡ w.partition → w.files name ≡ Some file → IsKept file
+  pub stand_kept : (name : ChunkName) (file : FileState) → name.partition.0 ≡ w.partition → w.files name ≡ Some file → IsDurableFile file
   stand_kept name file of there =
       file_is_kept (b.found name) file (in_chunk name h.durable)
       (subst (λ (o : Option FileState). HoldsButAt (b.found name) o (in_chunk name h.durable) [] []) there (holds_durable.at name of))

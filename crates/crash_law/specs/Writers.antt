@@ -16,7 +16,7 @@ use Rattle.crash_law.specs.Placed.{Placed, records_of, IsPlaced, Base, InOrder}
 use Rattle.crash_law.specs.Growth.{HoldsBut, IsBegun, MayBeNew, PartRises, file_or_new}
 
 -- What a writer of a partition begins with: the files found then, the maps that they restart to, and its first number.
-pub record Start : Type 0 where
+pub record WriterStart : Type 0 where
   pub found : Image
   pub maps : Entries
   pub first : ℕ
@@ -38,7 +38,7 @@ pub record Written : Type 0 where
 -- The writer stands for the account. Its files hold the durable records and those that it kept, each whole; at most one
 -- record may lack bytes: the last one, of a command that the disk refused. The maps are those after all records but this
 -- one, and a crash keeps the durable ones.
-pub record StandsFor (w : Written) (b : Start) (a : Account) : Type 0 where
+pub record StandsFor (w : Written) (b : WriterStart) (a : Account) : Type 0 where
   pub base : Base w.partition b.found b.maps b.first
   pub durable : List Placed
   pub kept : List Placed
@@ -56,7 +56,7 @@ pub record StandsFor (w : Written) (b : Start) (a : Account) : Type 0 where
   pub own : (name : ChunkName) → w.taking name ≡ true → b.found name ≡ None
 
 -- The writer begins: its files are those that were found, and it has these maps and no record of its own.
-pub record BeginsWith (w : Written) (b : Start) : Type 0 where
+pub record BeginsFrom (w : Written) (b : WriterStart) : Type 0 where
   pub base : Base w.partition b.found b.maps b.first
   pub begun : IsBegun w.partition b.found w.files w.gone
   pub maps : w.maps ≡ b.maps
@@ -135,6 +135,6 @@ pub record IsWholeIn (files : Files) (x : Placed) : Type 0 where
   pub has : Contains records x.content
 
 -- a crash keeps all bytes of the file, and its name where it has some
-pub record IsKept (file : FileState) : Type 0 where
+pub record IsDurableFile (file : FileState) : Type 0 where
   pub front : length file.bytes ≤ file.front
   pub named : (file.bytes ≡ []) ⊎ (file.named ≡ true)

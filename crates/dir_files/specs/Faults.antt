@@ -1,6 +1,6 @@
 -- How the count of a port's faults follows the answers of its calls.
 use Rattle.std.specs.Prelude.{◌≡◌, ℕ, ◌≤◌, Bool, true, false, Option, Some, None, Result, Ok, Err}
-use Rattle.hr_base.specs.Counts.{Rose}
+pub use Rattle.hr_base.specs.Counts.{CountsFault}
 use Rattle.dir_files.specs.declared.folder.FolderRefusal.{FolderRefusal}
 use Rattle.dir_files.specs.declared.folder.FolderRefusal.TheVariants.{Memory, Fault}
 use Rattle.dir_files.specs.declared.folder.RemoveRefusal.{RemoveRefusal}
@@ -27,12 +27,6 @@ abbrev pub is_remove_fault : {File : Type 0} → Result (Unit {0}) (RemoveRefusa
 is_remove_fault (Ok done) = false
 is_remove_fault (Err (remove.Memory file)) = false
 is_remove_fault (Err remove.Fault) = true
-
--- what a call made of a count of faults: it rose where the disk refused the call, and stays otherwise
-pub record CountsFault (refused : Bool) (old new : ℕ) : Type 0 where
-  pub rose : refused ≡ true → Rose old new
-  pub stays : refused ≡ false → new ≡ old
-  pub kept : old ≤ new
 
 -- a port that tells that the disk never fails still does so after a call
 abbrev pub StaysSound : Bool → Bool → ℕ → Type 0

@@ -34,13 +34,13 @@ abbrev pub read_of : Port → Image
 read_of port name = option_map (λ file. file.bytes) (port.held name)
 
 -- what a crash left, as files: all of it is durable
-abbrev pub files_of : Image → Files
-files_of image name = option_map (λ bytes. record { bytes = bytes; front = length bytes; named = true }) (image name)
+abbrev pub durable_files : Image → Files
+durable_files image name = option_map (λ bytes. record { bytes = bytes; front = length bytes; named = true }) (image name)
 
 -- an image taken as a folder: its files lie there, all of them durable
 abbrev pub port_of_image : Image → Port
 port_of_image image = record {
-  held = files_of image;
+  held = durable_files image;
   gone = λ name. None;
   lent = λ name. false;
   foreign = λ name. false;

@@ -7,7 +7,7 @@ use Rattle.dir_files.specs.Ports.{SamePort, Gives}
 use Rattle.dir_files.specs.Faults.{CountsFault, StaysSound}
 
 -- the count of faults rose where the disk refused the call and stays otherwise, and a sound port stays sound
-pub record Counts {F File : Type 0} (folder : Ghosts F File) (refused : Bool) (old new : F) : Type 0 where
+pub record CountsCall {F File : Type 0} (folder : Ghosts F File) (refused : Bool) (old new : F) : Type 0 where
   pub counts : CountsFault refused (folder.count old) (folder.count new)
   pub stays_sound : StaysSound (folder.sound old) (folder.sound new) (folder.count new)
 

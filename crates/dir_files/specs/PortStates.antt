@@ -14,12 +14,7 @@ pub record IsGivenBack (port : Port) : Type 0 where
   pub calm : IsCalm port
   pub gone : (name : ChunkName) → port.gone name ≡ None
 
--- and no file is there
-pub record IsVacant (port : Port) : Type 0 where
-  pub given_back : IsGivenBack port
-  pub held : (name : ChunkName) → port.held name ≡ None
-
--- or all that is there is durable
+-- and all that is there is durable
 pub record IsAtRest (port : Port) : Type 0 where
   pub given_back : IsGivenBack port
   pub named : (name : ChunkName) (file : FileState) → port.held name ≡ Some file → file.named ≡ true

@@ -40,7 +40,7 @@ impl From<AllocError> for FolderRefusal {
 pub trait Folder: Sized {
     ghost use Rattle.std.specs.Prelude.{◌≡◌, ◌↔◌, ◌≤◌, ◌+◌, ◌-◌, ◌^◌, ℕ, Bool, true, false, List, Option, Some, None, IsTrue, IsErrOf, IfOk, IfSome, IsSome, OnOk, OnErr, MatchBool, All, length, min, take};
     ghost use Rattle.hr_base.specs.declared.name.ChunkName.{ChunkName};
-    ghost use Rattle.hr_base.specs.Names.{IsChunkName};
+    ghost use Rattle.hr_base.specs.Names.{IsChunkName, TellsNoOther};
     ghost use Rattle.dir_files.specs.Files.{FileState, new_file, with_bytes, synced_file, named_file, IsReadAt};
     ghost use Rattle.dir_files.specs.Faults.{is_fault, is_remove_fault, kept_file, CountsFault, StaysSound};
     ghost use Rattle.dir_files.specs.Ports.{Port, IsPort, SamePort, IsEmptyPort, CanJoin, Joins, IsListing, IsFreeName, Takes, Creates, MayCreate, SyncsNames, Gives, Removes};
@@ -97,6 +97,7 @@ pub trait Folder: Sized {
     fn take(&mut self, name: ChunkName) -> Result<Self::File, FolderRefusal>
         requires valid { IsChunkName name }
         requires held { tells ≡ true → IsSome ((port self.old).held name) }
+        ensures name { IfOk result (λ file. TellsNoOther (Self.File.name file) name) }
         ensures taken { tells ≡ true → OnOk result (Takes (port self.old) (port self.new) name) }
         ensures file { tells ≡ true → IfOk result (λ file. (Self.File.name file ≡ Some name) × (Some (state file) ≡ (port self.old).held name)) }
         ensures refused { tells ≡ true → OnErr result (SamePort (port self.old) (port self.new)) }
@@ -107,6 +108,7 @@ pub trait Folder: Sized {
     fn create(&mut self, name: ChunkName) -> Result<Self::File, FolderRefusal>
         requires valid { IsChunkName name }
         requires free { tells ≡ true → IsFreeName (port self.old) name }
+        ensures name { IfOk result (λ file. TellsNoOther (Self.File.name file) name) }
         ensures created { tells ≡ true → OnOk result (Creates (port self.old) (port self.new) name) }
         ensures file { tells ≡ true → IfOk result (λ file. (Self.File.name file ≡ Some name) × (state file ≡ new_file)) }
         ensures failed { tells ≡ true → IsErrOf result FolderRefusal.Fault → MayCreate (port self.old) (port self.new) name }
@@ -119,7 +121,7 @@ pub trait Folder: Sized {
         ensures appended { tells ≡ true → OnOk result (state file.new ≡ with_bytes (state file.old) piece.now) }
         ensures failed { tells ≡ true → IsErrOf result FolderRefusal.Fault → (n : ℕ) × (state file.new ≡ with_bytes (state file.old) (take n piece.now)) }
         ensures memory { tells ≡ true → IsErrOf result FolderRefusal.Memory → state file.new ≡ state file.old }
-        ensures name { tells ≡ true → Self.File.name file.new ≡ Self.File.name file.old }
+        ensures name { Self.File.name file.new ≡ Self.File.name file.old }
         ensures same { tells ≡ true → SamePort (port self.old) (port self.new) }
         ensures counts { CountsFault (is_fault result) (count self.old) (count self.new) }
         ensures stays_sound { StaysSound (sound self.old) (sound self.new) (count self.new) };
@@ -128,7 +130,7 @@ pub trait Folder: Sized {
     fn sync_file(&mut self, file: &mut Self::File) -> Result<(), FolderRefusal>
         ensures synced { tells ≡ true → OnOk result (state file.new ≡ synced_file (state file.old)) }
         ensures refused { tells ≡ true → OnErr result (state file.new ≡ state file.old) }
-        ensures name { tells ≡ true → Self.File.name file.new ≡ Self.File.name file.old }
+        ensures name { Self.File.name file.new ≡ Self.File.name file.old }
         ensures same { tells ≡ true → SamePort (port self.old) (port self.new) }
         ensures counts { CountsFault (is_fault result) (count self.old) (count self.new) }
         ensures stays_sound { StaysSound (sound self.old) (sound self.new) (count self.new) };
@@ -144,7 +146,7 @@ pub trait Folder: Sized {
     fn mark(&self, file: &mut Self::File) -> bool
         ensures fixed { tells ≡ true → (name : ChunkName) → Self.File.name file.old ≡ Some name → result ≡ (port self.now).fixed name }
         ensures marked { tells ≡ true → MatchBool result (state file.new ≡ named_file (state file.old)) (state file.new ≡ state file.old) }
-        ensures name { tells ≡ true → Self.File.name file.new ≡ Self.File.name file.old };
+        ensures name { Self.File.name file.new ≡ Self.File.name file.old };
 
     /// Moves bytes of a file, from this offset on, to the front of a buffer, and gives how many: 0 for a buffer that is not
     /// empty where the file has no byte there.
@@ -157,7 +159,7 @@ pub trait Folder: Sized {
         ensures bound { IfOk result (λ count. count ≤ length into.new) }
         ensures given { tells ≡ true → IfOk result (λ count. IsReadAt (state file.old).bytes at into.new count) }
         ensures file { tells ≡ true → state file.new ≡ state file.old }
-        ensures name { tells ≡ true → Self.File.name file.new ≡ Self.File.name file.old }
+        ensures name { Self.File.name file.new ≡ Self.File.name file.old }
         ensures same { tells ≡ true → SamePort (port self.old) (port self.new) }
         ensures counts { CountsFault (is_fault result) (count self.old) (count self.new) }
         ensures stays_sound { StaysSound (sound self.old) (sound self.new) (count self.new) };
@@ -167,7 +169,8 @@ pub trait Folder: Sized {
     fn remove(&mut self, file: Self::File) -> Result<(), RemoveRefusal<Self::File>>
         ensures removed { tells ≡ true → kept_file result ≡ None → (name : ChunkName) → Self.File.name file ≡ Some name
             → Removes (port self.old) (port self.new) name (state file) }
-        ensures kept { tells ≡ true → IfSome (kept_file result) (λ kept. (state kept ≡ state file) × (Self.File.name kept ≡ Self.File.name file)) }
+        ensures kept { tells ≡ true → IfSome (kept_file result) (λ kept. state kept ≡ state file) }
+        ensures name { IfSome (kept_file result) (λ kept. Self.File.name kept ≡ Self.File.name file) }
         ensures memory { tells ≡ true → IfSome (kept_file result) (λ _. SamePort (port self.old) (port self.new)) }
         ensures counts { CountsFault (is_remove_fault result) (count self.old) (count self.new) }
         ensures stays_sound { StaysSound (sound self.old) (sound self.new) (count self.new) };

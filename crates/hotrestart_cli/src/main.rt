@@ -4,25 +4,15 @@
 ghost use Rattle.std.specs.Prelude.{◌≡◌, ◌≢◌};
 ghost use Rattle.std.specs.declared.io.ErrorKind.TheVariants.{OutOfMemory};
 ghost use Rattle.restart_load.specs.declared.ended.Ended.{Ended};
-ghost use Rattle.hotrestart_cli.specs.declared.outcome.Outcome.{Outcome};
-
-mod input;
-mod outcome;
-mod script;
-mod serve;
-mod telling;
-#[cfg(test)]
-mod tests;
+ghost use Rattle.store_serve.specs.declared.outcome.Outcome.{Outcome};
 
 use hr_edges::{StdSink, StdSource};
-pub use outcome::Outcome;
 use real_folder::RealFolder;
-pub use serve::serve;
 use std::io::BufWriter;
 use std::process::ExitCode;
 use std::{env, fs, io};
 use store_drill::Ended;
-use telling::tell;
+use store_serve::{Outcome, serve, tell};
 
 /// How many bytes of output are gathered before they are written.
 const OUTPUT_LEN: usize = 65_536;

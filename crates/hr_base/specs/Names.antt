@@ -1,5 +1,5 @@
 -- Chunk files: their kinds, and the text of their names.
-use Rattle.std.specs.Prelude.{◌≡◌, ℕ, false, ◌+◌, ◌/◌, ◌%◌, ◌<◌, ◌≤◌, List, [], ◌∷◌, ◌++◌, codes, zero, suc, nat_lt, if◌then◌else◌}
+use Rattle.std.specs.Prelude.{◌≡◌, ℕ, false, ◌+◌, ◌/◌, ◌%◌, ◌<◌, ◌≤◌, List, [], ◌∷◌, ◌++◌, codes, zero, suc, nat_lt, if◌then◌else◌, Option, IfSome}
 use Rattle.std.specs.Ordering.{nat_cmp, is_gt}
 use Rattle.std.specs.Cmp.Lexicographic.{slice_cmp}
 use Rattle.hr_base.specs.declared.limits.TheConstants.{MAX_PARTITIONS, CHUNK_NO_END}
@@ -46,6 +46,10 @@ hex_digits (suc count) n = hex_digits count (n / 16) ++ hex_digit (n % 16) ∷ [
 unfoldable pub name_text : ChunkName → List ℕ
 name_text name =
     112 ∷ (48 + name.partition.0 / 10) ∷ (48 + name.partition.0 % 10) ∷ 45 ∷ letter_of_kind name.kind ∷ 45 ∷ (hex_digits 16 name.number.0 ++ codes ".chunk")
+
+-- what a handle tells of its name: this one, or none
+abbrev pub TellsNoOther : Option ChunkName → ChunkName → Type 0
+TellsNoOther told name = IfSome told (λ own. own ≡ name)
 
 -- the text of the first does not come after that of the second; the first byte that differs decides
 abbrev pub IsUpTo : ChunkName → ChunkName → Type 0

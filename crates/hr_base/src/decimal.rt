@@ -43,37 +43,3 @@ fn read_digits(digits: &[u8]) -> Option<u64>
     }
     Some(value)
 }
-
-#[cfg(test)]
-mod tests {
-    use super::*;
-    use std::test::Fail;
-
-    #[test]
-    fn reads_numbers_and_no_other_texts(rt: HostRuntime) -> Result<(), Fail> {
-        let numbers: [(&[u8], u64); 5] = [
-            (b"0", 0),
-            (b"7", 7),
-            (b"10", 10),
-            (b"4294967296", 4_294_967_296),
-            (b"18446744073709551615", 18_446_744_073_709_551_615),
-        ];
-        for (text, number) in numbers {
-            assert_eq!(rt; read_decimal(text).ok_or("a number")?, number);
-        }
-        let others: [&[u8]; 8] = [
-            b"",
-            b"00",
-            b"07",
-            b"+7",
-            b"-7",
-            b"7 ",
-            b"0x7",
-            b"18446744073709551616",
-        ];
-        for text in others {
-            assert_eq!(rt; read_decimal(text), None);
-        }
-        Ok(())
-    }
-}

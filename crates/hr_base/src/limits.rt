@@ -30,6 +30,9 @@ pub const MAX_CHUNK_LIMIT: u64 = 67_108_864;
 /// The most bytes of a chunk file that a restart takes.
 pub const MAX_FILE_LEN: u64 = 134_217_728;
 
+/// The most bytes of a script.
+pub const MAX_SCRIPT_LEN: usize = 67_108_864;
+
 /// The greatest percentage of garbage.
 pub const MAX_PERCENT: u8 = 100;
 

@@ -3,7 +3,7 @@ use Rattle.std.specs.Prelude.{◌≡◌, ℕ, ◌+◌, List, [], ◌++◌, lengt
 use Rattle.std.proofs.Common.{sym, ◌∙◌, ap, arith, append_assoc, take-append-drop}
 use Rattle.std.proofs.Math.Seq.{take-append-add}
 use Rattle.std.proofs.lemmas.List.{append-nil}
-use Rattle.hr_edges.specs.Edges.{Takes, TakesFront, TakesAtLeast, StaysUntold}
+use Rattle.hr_edges.specs.Edges.{TakesAll, TakesFront, TakesAtLeast, StaysUntold}
 
 -- a front of the piece was taken, and the rest is to be written
 abbrev pub Written : Option (List ℕ) → Option (List ℕ) → List ℕ → List ℕ → Type 0
@@ -14,7 +14,7 @@ pub written_none : (old : Option (List ℕ)) (piece : List ℕ) → Written old 
 written_none None piece = refl
 written_none (Some old) piece = ([], ap Some (sym (append-nil old)), refl)
 
-written_past : (old : List ℕ) (mid new : Option (List ℕ)) (piece rest : List ℕ) (n : ℕ) → Written (Some old) mid piece rest → Takes mid new (take n rest) → Written (Some old) new piece (drop n rest)
+written_past : (old : List ℕ) (mid new : Option (List ℕ)) (piece rest : List ℕ) (n : ℕ) → Written (Some old) mid piece rest → TakesAll mid new (take n rest) → Written (Some old) new piece (drop n rest)
 written_past old None new piece rest n w t = cc
 written_past old (Some had) new piece rest n w t =
     let is : had ≡ old ++ w.0 = cc in (
@@ -24,13 +24,13 @@ written_past old (Some had) new piece rest n w t =
     )
 
 -- some more of it was taken
-pub written_more : (old mid new : Option (List ℕ)) (piece rest : List ℕ) (n : ℕ) → Written old mid piece rest → Takes mid new (take n rest) → StaysUntold mid new → Written old new piece (drop n rest)
+pub written_more : (old mid new : Option (List ℕ)) (piece rest : List ℕ) (n : ℕ) → Written old mid piece rest → TakesAll mid new (take n rest) → StaysUntold mid new → Written old new piece (drop n rest)
 written_more None None new piece rest n w t u = u
 written_more None (Some had) new piece rest n w t u = cc
 written_more (Some old) mid new piece rest n w t u = written_past old mid new piece rest n w t
 
 -- all of it was taken
-pub written_all : (old new : Option (List ℕ)) (piece : List ℕ) → Written old new piece [] → Takes old new piece
+pub written_all : (old new : Option (List ℕ)) (piece : List ℕ) → Written old new piece [] → TakesAll old new piece
 written_all None new piece w = tt
 written_all (Some old) new piece w = w.1 ∙ ap (λ (p : List ℕ). Some (old ++ p)) (sym (w.2 ∙ append-nil w.0))
 
@@ -48,6 +48,11 @@ pub written_torn : (old mid new : Option (List ℕ)) (piece rest : List ℕ) →
 written_torn None mid new piece rest w t = tt
 written_torn (Some old) mid new piece rest w t = torn_past old mid new piece rest w t
 
+-- a call took nothing
+pub torn_none : (old new : Option (List ℕ)) (piece : List ℕ) (n : ℕ) → TakesAll old new (take n piece) → TakesFront old new piece
+torn_none None new piece n t = tt
+torn_none (Some old) new piece n t = (n, t)
+
 -- what is told stays told, and what is not told does not come to be told
 pub untold_of_written : (old new : Option (List ℕ)) (piece rest : List ℕ) → Written old new piece rest → StaysUntold old new
 untold_of_written None new piece rest w = w
@@ -55,11 +60,11 @@ untold_of_written (Some old) new piece rest w = tt
 
 -- ---- one piece after another
 
-pub Takes-nothing : (old : Option (List ℕ)) → Takes old old []
+pub Takes-nothing : (old : Option (List ℕ)) → TakesAll old old []
 Takes-nothing None = tt
 Takes-nothing (Some x) = ap Some (sym (append-nil x))
 
-pub Takes-append : (old mid new : Option (List ℕ)) (a b : List ℕ) → Takes old mid a → Takes mid new b → Takes old new (a ++ b)
+pub Takes-append : (old mid new : Option (List ℕ)) (a b : List ℕ) → TakesAll old mid a → TakesAll mid new b → TakesAll old new (a ++ b)
 Takes-append None mid new a b s t = tt
 Takes-append (Some x) None new a b s t = cc
 Takes-append (Some x) (Some y) new a b s t =
@@ -67,7 +72,7 @@ Takes-append (Some x) (Some y) new a b s t =
     t ∙ ap (λ (z : List ℕ). Some (z ++ b)) is ∙ ap Some (append_assoc x a b)
 
 -- all of one piece, and then a front of another
-pub TakesAtLeast-append : (old mid new : Option (List ℕ)) (a b : List ℕ) → Takes old mid a → TakesFront mid new b → TakesAtLeast (length a) old new (a ++ b)
+pub TakesAtLeast-append : (old mid new : Option (List ℕ)) (a b : List ℕ) → TakesAll old mid a → TakesFront mid new b → TakesAtLeast (length a) old new (a ++ b)
 TakesAtLeast-append None mid new a b s t = tt
 TakesAtLeast-append (Some x) None new a b s t = cc
 TakesAtLeast-append (Some x) (Some y) new a b s t =

@@ -1,7 +1,7 @@
 -- What the calls of sources and sinks do to the bytes, where these are told, and to the counts of failures.
-use Rattle.std.specs.Prelude.{◌≡◌, ℕ, ◌<◌, ◌≤◌, Bool, true, false, ◌&&◌, ◌==◌, nat_lt, List, [], ◌++◌, length, take, drop, Option, None, Some, Result, Ok, Err}
-use Rattle.hr_base.specs.Counts.{Rose}
+use Rattle.std.specs.Prelude.{◌≡◌, ℕ, ◌<◌, ◌≤◌, ◌+◌, Bool, true, ◌&&◌, ◌==◌, nat_lt, List, [], ◌++◌, length, take, drop, Option, None, Some, Result, Ok, Err}
 use Rattle.hr_edges.specs.declared.failure.Failed.{Failed}
+use Rattle.hr_edges.specs.declared.reading.TheConstants.{PIECE_LEN}
 
 -- ---- both
 
@@ -9,12 +9,6 @@ use Rattle.hr_edges.specs.declared.failure.Failed.{Failed}
 abbrev pub StaysUntold : Option (List ℕ) → Option (List ℕ) → Type 0
 StaysUntold None new = new ≡ None
 StaysUntold (Some old) new = Unit {0}
-
--- the count of failures rose if the call failed, stays if it did not, and never falls
-pub record CountsFailure (failed : Bool) (before now : ℕ) : Type 0 where
-  pub rose : failed ≡ true → Rose before now
-  pub stays : failed ≡ false → now ≡ before
-  pub kept : before ≤ now
 
 -- ---- sources
 
@@ -24,20 +18,23 @@ pub record GivesFirst (bytes : List ℕ) (left : Option (List ℕ)) (count : ℕ
   pub rest : left ≡ Some (drop count bytes)
   pub given : take count into ≡ take count bytes
 
--- some last part of the bytes is left
-abbrev pub LeavesRest : List ℕ → Option (List ℕ) → Type 0
-LeavesRest bytes left = (count : ℕ) × (left ≡ Some (drop count bytes))
-
 -- of all bytes these were read, and the others are left
 pub record WasRead (left : Option (List ℕ)) (all read : List ℕ) : Type 0 where
   pub rest : List ℕ
   pub whole : all ≡ read ++ rest
   pub left_is : left ≡ Some rest
 
--- more than `limit` of all bytes were read, and the others are left
+-- more than `limit` of all bytes were read, at most a piece more, and the others are left
 pub record ReadsTooMuch (limit : ℕ) (all : List ℕ) (left : Option (List ℕ)) : Type 0 where
   pub read : List ℕ
   pub more : limit < length read
+  pub few : length read ≤ limit + PIECE_LEN
+  pub was_read : WasRead left all read
+
+-- at most `limit` of all bytes were read, and the others are left
+pub record ReadsAtMost (limit : ℕ) (all : List ℕ) (left : Option (List ℕ)) : Type 0 where
+  pub read : List ℕ
+  pub few : length read ≤ limit
   pub was_read : WasRead left all read
 
 -- the source was read to its end, where it tells its bytes
@@ -48,9 +45,9 @@ IsRead (Some all) new = new ≡ Some []
 -- ---- sinks
 
 -- the sink took these bytes, where it tells what it takes
-abbrev pub Takes : Option (List ℕ) → Option (List ℕ) → List ℕ → Type 0
-Takes None new bytes = Unit {0}
-Takes (Some old) new bytes = new ≡ Some (old ++ bytes)
+abbrev pub TakesAll : Option (List ℕ) → Option (List ℕ) → List ℕ → Type 0
+TakesAll None new bytes = Unit {0}
+TakesAll (Some old) new bytes = new ≡ Some (old ++ bytes)
 
 -- the sink took a front of these bytes
 abbrev pub TakesFront : Option (List ℕ) → Option (List ℕ) → List ℕ → Type 0

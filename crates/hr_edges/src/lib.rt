@@ -2,6 +2,8 @@
 #![tactic(auto)]
 
 mod failure;
+pub mod laws;
+mod reading;
 mod schedule;
 mod sink;
 mod sink_in_memory;
@@ -10,8 +12,10 @@ mod source;
 mod source_in_memory;
 mod source_of_std;
 mod unfailing;
+mod writing;
 
 pub use failure::Failed;
+pub use reading::{InputRefusal, PIECE_LEN, read_all};
 pub use sink::Sink;
 pub use sink_in_memory::MemSink;
 pub use sink_of_std::StdSink;
@@ -19,6 +23,4 @@ pub use source::Source;
 pub use source_in_memory::MemSource;
 pub use source_of_std::StdSource;
 pub use unfailing::{EndlessSource, NullSink};
-
-#[cfg(test)]
-mod tests;
+pub use writing::write_all;

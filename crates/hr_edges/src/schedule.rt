@@ -1,7 +1,7 @@
 //! The calls at which a source or a sink in memory fails.
 
 ghost use Rattle.std.specs.Prelude.{◌≡◌, true};
-ghost use Rattle.hr_edges.specs.Edges.{CountsFailure};
+ghost use Rattle.hr_base.specs.Counts.{CountsFault};
 ghost use Rattle.hr_edges.specs.Schedules.{after_call, is_due, one_more};
 
 /// Which calls are to fail, counted from 1, and how many calls and faults there were.
@@ -28,7 +28,7 @@ impl Schedule {
     pub fn fails_now(&mut self) -> bool
         ensures due { result ≡ is_due self.old }
         ensures after { self.new ≡ after_call result self.old }
-        ensures counted { CountsFailure result self.old.count self.new.count }
+        ensures counted { CountsFault result self.old.count self.new.count }
     {
         self.calls = self.calls.saturating_add(1);
         let failed = self.fails.contains(&self.calls);
@@ -41,7 +41,7 @@ impl Schedule {
     /// Counts a fault.
     pub fn raise(&mut self)
         ensures raised { self.new ≡ record self.old { count = one_more self.old.count } }
-        ensures counted { CountsFailure true self.old.count self.new.count }
+        ensures counted { CountsFault true self.old.count self.new.count }
     {
         self.count = self.count.saturating_add(1);
     }

@@ -5,7 +5,8 @@ use crate::failure::Failed;
 /// Where the bytes of a session go to. Clauses on bytes hold where the sink tells them.
 pub trait Sink {
     ghost use Rattle.std.specs.Prelude.{◌≡◌, ◌≤◌, ℕ, List, Option, IfOk, OnErr, length, take};
-    ghost use Rattle.hr_edges.specs.Edges.{CountsFailure, is_failed_write, StaysUntold, Takes, TakesFront};
+    ghost use Rattle.hr_base.specs.Counts.{CountsFault};
+    ghost use Rattle.hr_edges.specs.Edges.{is_failed_write, StaysUntold, TakesAll, TakesFront};
 
     /// The bytes taken, where that is told.
     ghost taken: { Self → Option (List ℕ) };
@@ -17,10 +18,10 @@ pub trait Sink {
     fn write(&mut self, piece: &[u8]) -> Result<usize, Failed>
         ensures bound { IfOk result (λ n. n ≤ length piece.now) }
         ensures appended { IfOk result
-            (λ n. Takes (taken self.old) (taken self.new) (take n piece.now)) }
+            (λ n. TakesAll (taken self.old) (taken self.new) (take n piece.now)) }
         ensures refused { OnErr result (TakesFront (taken self.old) (taken self.new) piece.now) }
         ensures untold { StaysUntold (taken self.old) (taken self.new) }
-        ensures counted { CountsFailure (is_failed_write result piece.now)
+        ensures counted { CountsFault (is_failed_write result piece.now)
             (count self.old) (count self.new) };
 
     /// How often it failed, or the greatest number.

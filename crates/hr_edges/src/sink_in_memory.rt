@@ -27,7 +27,8 @@ impl MemSink {
         ensures count { IfOk result (λ sink. ⟦<MemSink as Sink>⟧.count sink ≡ 0) }
         ensures room { IfOk result (λ sink. sink.room ≡ room) }
         ensures most { IfOk result (λ sink. sink.most ≡ usize.MAX) }
-        ensures schedule { IfOk result (λ sink. sink.schedule ≡ record { fails = fails; calls = 0; count = 0 }) }
+        ensures schedule { IfOk result
+            (λ sink. sink.schedule ≡ record { fails = fails; calls = 0; count = 0 }) }
     {
         MemSink::in_steps(alloc, room, fails, usize::MAX)
     }
@@ -43,7 +44,8 @@ impl MemSink {
         ensures count { IfOk result (λ sink. ⟦<MemSink as Sink>⟧.count sink ≡ 0) }
         ensures room { IfOk result (λ sink. sink.room ≡ room) }
         ensures most { IfOk result (λ sink. sink.most ≡ most) }
-        ensures schedule { IfOk result (λ sink. sink.schedule ≡ record { fails = fails; calls = 0; count = 0 }) }
+        ensures schedule { IfOk result
+            (λ sink. sink.schedule ≡ record { fails = fails; calls = 0; count = 0 }) }
     {
         Ok(MemSink {
             bytes: Vec::with_capacity(alloc, room)?,
@@ -62,7 +64,8 @@ impl MemSink {
 }
 
 impl Sink for MemSink {
-    ghost use Rattle.hr_edges.specs.Edges.{CountsFailure, is_failed_write, Takes, TakesFront};
+    ghost use Rattle.hr_base.specs.Counts.{CountsFault};
+    ghost use Rattle.hr_edges.specs.Edges.{is_failed_write, TakesAll, TakesFront};
     ghost use Rattle.hr_edges.specs.Schedules.{after_call, is_due, least};
 
     ghost taken = { λ sink. Some sink.bytes.items };
@@ -82,7 +85,7 @@ impl Sink for MemSink {
         ensures appended { IfOk result
             (λ n. self.new.bytes.items ≡ self.old.bytes.items ++ take n piece.now) }
         ensures refused { OnErr result (self.new.bytes.items ≡ self.old.bytes.items) }
-        ensures counted { CountsFailure (is_failed_write result piece.now)
+        ensures counted { CountsFault (is_failed_write result piece.now)
             self.old.schedule.count self.new.schedule.count }
     {
         if self.schedule.fails_now() {

@@ -2,7 +2,8 @@
 
 ghost use Rattle.std.specs.Prelude.{◌≡◌, ◌≤◌, None, IfOk, is_err, length};
 ghost use Rattle.std.specs.Io.KnownBytes.{Keeps, WriteAppends};
-ghost use Rattle.hr_edges.specs.Edges.{CountsFailure, is_failed_write};
+ghost use Rattle.hr_base.specs.Counts.{CountsFault};
+ghost use Rattle.hr_edges.specs.Edges.{is_failed_write};
 
 use crate::failure::Failed;
 use crate::sink::Sink;
@@ -27,7 +28,7 @@ impl<W: Write> StdSink<W> {
     /// Hands on what the writer holds back. Where that fails, some of it may be lost.
     pub fn flush(&mut self) -> Result<(), Failed>
         ensures passed { Keeps (W.contents self.old.inner) (W.contents self.new.inner) }
-        ensures counted { CountsFailure (is_err result)
+        ensures counted { CountsFault (is_err result)
             (⟦<StdSink<W> as Sink>⟧.count self.old) (⟦<StdSink<W> as Sink>⟧.count self.new) }
     {
         match self.inner.flush() {
@@ -49,7 +50,7 @@ impl<W: Write> Sink for StdSink<W> {
         ensures passed { WriteAppends (W.contents self.old.inner) (W.contents self.new.inner)
             result piece.now }
         ensures bound { IfOk result (λ n. n ≤ length piece.now) }
-        ensures counted { CountsFailure (is_failed_write result piece.now)
+        ensures counted { CountsFault (is_failed_write result piece.now)
             self.old.count self.new.count }
     {
         match self.inner.write(piece) {

@@ -46,7 +46,8 @@ impl MemSource {
 }
 
 impl Source for MemSource {
-    ghost use Rattle.hr_edges.specs.Edges.{CountsFailure, GivesFirst, LeavesRest};
+    ghost use Rattle.hr_base.specs.Counts.{CountsFault};
+    ghost use Rattle.hr_edges.specs.Edges.{GivesFirst};
     ghost use Rattle.hr_edges.specs.Schedules.{after_call, is_due, least};
 
     ghost left = { λ source. Some (drop source.at source.bytes.items) };
@@ -69,7 +70,7 @@ impl Source for MemSource {
             ≡ drop self.old.at self.old.bytes.items) }
         ensures end { IfOk result
             (λ n. n ≡ 0 → 0 < length into.new → drop self.old.at self.old.bytes.items ≡ []) }
-        ensures counted { CountsFailure (is_err result)
+        ensures counted { CountsFault (is_err result)
             self.old.schedule.count self.new.schedule.count }
     {
         if self.schedule.fails_now() {

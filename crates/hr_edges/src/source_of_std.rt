@@ -2,7 +2,7 @@
 
 ghost use Rattle.std.specs.Prelude.{◌≡◌, ◌≤◌, None, IfOk, is_err, length};
 ghost use Rattle.std.specs.Io.KnownBytes.{ReadConsumes};
-ghost use Rattle.hr_edges.specs.Edges.{CountsFailure};
+ghost use Rattle.hr_base.specs.Counts.{CountsFault};
 
 use crate::failure::Failed;
 use crate::source::Source;
@@ -34,7 +34,7 @@ impl<R: Read> Source for StdSource<R> {
         ensures passed { ReadConsumes (R.remaining self.old.inner) (R.remaining self.new.inner)
             result into.new }
         ensures bound { IfOk result (λ n. n ≤ length into.new) }
-        ensures counted { CountsFailure (is_err result) self.old.count self.new.count }
+        ensures counted { CountsFault (is_err result) self.old.count self.new.count }
     {
         match self.inner.read(into) {
             Ok(length) => Ok(length),

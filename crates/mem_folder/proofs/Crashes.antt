@@ -13,21 +13,21 @@ use Rattle.hr_base.specs.NameTests.{is_name}
 use Rattle.hr_base.proofs.NameTestLaws.{is_name-true, is_name-same}
 use Rattle.dir_files.specs.Files.{FileState, IsFile}
 use Rattle.dir_files.specs.Ports.{Port, IsPort, SamePort, is_present}
-use Rattle.dir_files.specs.Images.{KeepsFront, MayLeave, IsImage, read_of, files_of, port_of_image}
+use Rattle.dir_files.specs.Images.{KeepsFront, MayLeave, IsImage, read_of, durable_files, port_of_image}
 use Rattle.mem_folder.specs.declared.chain.Entry.{Entry}
 use Rattle.mem_folder.specs.declared.chain.Slot.{Slot}
 use Rattle.mem_folder.specs.Durables.{durable_file}
-use Rattle.mem_folder.specs.Memory.{blank, resting_entry, entry_at, has_name, port_of}
+use Rattle.mem_folder.specs.Memory.{blank, resting_entry, entry_at, has_name, memory_port}
 use Rattle.mem_folder.specs.Orders.{ComesBefore}
-use Rattle.mem_folder.specs.Picks.{next_state, state_after, draw_at, next_pick, stays, left_length, left_of_file, left_of}
+use Rattle.mem_folder.specs.Picks.{next_state, draw_after, draw_at, next_pick, stays, left_length, left_of_file, left_of}
 use Rattle.mem_folder.specs.Crashes.{IsRoll, CrashesTo, LeavesSlots}
 use Rattle.mem_folder.proofs.Orders.{before_other}
 use Rattle.mem_folder.proofs.Slots.{is_name-back_false, entry_at-here, entry_at-past, entry_at-absent}
 use Rattle.mem_folder.proofs.Listing.{Contains-cons_cases, Contains-head, Contains-tail}
 
 -- draws of the next pick are those of the pick, from the second on
-state_after-next : (seed count : ℕ) → state_after (next_state seed) count ≡ state_after seed (suc count)
-unfolding state_after
+state_after-next : (seed count : ℕ) → draw_after (next_state seed) count ≡ draw_after seed (suc count)
+unfolding draw_after
 state_after-next seed zero = refl
 state_after-next seed (suc count) = ap next_state (state_after-next seed count)
 
@@ -48,14 +48,14 @@ left_of-next pick draw None (Some file) = left_of_file-next pick draw false file
 left_of-next pick draw None None = refl
 
 -- a name whose file is here is among the names
-present_named : (slots : List Slot) (name : ChunkName) → is_present (port_of slots) name ≡ true → has_name slots name ≡ true
+present_named : (slots : List Slot) (name : ChunkName) → is_present (memory_port slots) name ≡ true → has_name slots name ≡ true
 present_named slots name present = elim (cases_Bool (has_name slots name)) [
   | inl there ↦ there
   | inr absent ↦ absurd (false≢true (sym (ap (λ (e : Entry). is_some e.held || is_some e.gone) (entry_at-absent slots name absent)) ∙ present))
 ]
 
 -- no slots
-empty_roll : IsRoll (port_of []) []
+empty_roll : IsRoll (memory_port []) []
 unfolding entry_at
 empty_roll = record {
   listed = λ name. (λ there. absurd (omega (arith, there.1)), λ present. absurd (false≢true present));
@@ -101,14 +101,14 @@ nothing_of pick draw None None none = refl
 
 module _ (pick : Pick) (slot : Slot) (rest new : List Slot) (entry : Entry) (valid : IsChunkName slot.name) (first : (other : ChunkName) → has_name rest other ≡ true → ComesBefore slot.name other) (left : entry ≡ left_entry pick (draw_at pick 0) slot.entry) where
   -- the names behind are others
-  behind_other : (name : ChunkName) → is_present (port_of rest) name ≡ true → is_name name slot.name ≡ false
+  behind_other : (name : ChunkName) → is_present (memory_port rest) name ≡ true → is_name name slot.name ≡ false
   behind_other name present =
       is_name-back_false slot.name name (before_other slot.name name (first name (present_named rest name present)))
 
-  present_here : (name : ChunkName) → is_name name slot.name ≡ true → is_present (port_of (slot ∷ rest)) name ≡ (is_some slot.entry.held || is_some slot.entry.gone)
+  present_here : (name : ChunkName) → is_name name slot.name ≡ true → is_present (memory_port (slot ∷ rest)) name ≡ (is_some slot.entry.held || is_some slot.entry.gone)
   present_here name here = ap (λ (e : Entry). is_some e.held || is_some e.gone) (entry_at-here name slot rest here)
 
-  present_past : (name : ChunkName) → is_name name slot.name ≡ false → is_present (port_of (slot ∷ rest)) name ≡ is_present (port_of rest) name
+  present_past : (name : ChunkName) → is_name name slot.name ≡ false → is_present (memory_port (slot ∷ rest)) name ≡ is_present (memory_port rest) name
   present_past name past = ap (λ (e : Entry). is_some e.held || is_some e.gone) (entry_at-past name slot rest past)
 
   kept_more : ((other : ChunkName) → has_name new other ≡ has_name rest other) → (other : ChunkName) → has_name (record { name = slot.name; entry = entry } ∷ new) other ≡ has_name (slot ∷ rest) other
@@ -117,13 +117,13 @@ module _ (pick : Pick) (slot : Slot) (rest new : List Slot) (entry : Entry) (val
 
   -- the first name draws
   module _ (present : (is_some slot.entry.held || is_some slot.entry.gone) ≡ true) (behind : LeavesSlots (next_pick pick) rest new) where
-    roll_more : IsRoll (port_of (slot ∷ rest)) (slot.name ∷ behind.names)
+    roll_more : IsRoll (memory_port (slot ∷ rest)) (slot.name ∷ behind.names)
     roll_more = record {
       listed = λ name. (
         λ there. elim (Contains-cons_cases slot.name behind.names name there) [
           | inl same ↦ present_here name (subst (λ (x : ChunkName). is_name x slot.name ≡ true) same (is_name-same slot.name)) ∙ present
           | inr later ↦
-              let is : is_present (port_of rest) name ≡ true = (behind.roll.listed name).0 later in
+              let is : is_present (memory_port rest) name ≡ true = (behind.roll.listed name).0 later in
               present_past name (behind_other name is) ∙ is
         ],
         λ is. elim (cases_Bool (is_name name slot.name)) [
@@ -165,11 +165,11 @@ module _ (pick : Pick) (slot : Slot) (rest new : List Slot) (entry : Entry) (val
 
   -- there is no file of the first name
   module _ (none : (is_some slot.entry.held || is_some slot.entry.gone) ≡ false) (behind : LeavesSlots pick rest new) where
-    roll_same : IsRoll (port_of (slot ∷ rest)) behind.names
+    roll_same : IsRoll (memory_port (slot ∷ rest)) behind.names
     roll_same = record {
       listed = λ name. (
         λ there.
-            let is : is_present (port_of rest) name ≡ true = (behind.roll.listed name).0 there in
+            let is : is_present (memory_port rest) name ≡ true = (behind.roll.listed name).0 there in
             present_past name (behind_other name is) ∙ is,
         λ is. elim (cases_Bool (is_name name slot.name)) [
           | inl here ↦ absurd (false≢true (sym none ∙ sym (present_here name here) ∙ is))
@@ -261,29 +261,29 @@ none_may_leave None None none = tt
 
 module _ (pick : Pick) (old new : List Slot) (leaves : LeavesSlots pick old new) where
   -- the place of a name whose file was here
-  place_of : (name : ChunkName) → is_present (port_of old) name ≡ true → (place : ℕ) × (slice_get leaves.names place ≡ Some name)
+  place_of : (name : ChunkName) → is_present (memory_port old) name ≡ true → (place : ℕ) × (slice_get leaves.names place ≡ Some name)
   place_of name present =
       let there : Contains leaves.names name = (leaves.roll.listed name).1 present in
       (there.0, slice_get-get_or leaves.names there.0 name there.1 ∙ ap Some there.2)
 
   -- each name rests
   rests : (name : ChunkName) → (left : Option (List ℕ)) × (entry_at new name ≡ resting_entry (option_map durable_file left))
-  rests name = elim (cases_Bool (is_present (port_of old) name)) [
+  rests name = elim (cases_Bool (is_present (memory_port old) name)) [
     | inl present ↦
         let at = place_of name present in
         (left_of pick (draw_at pick at.0) (entry_at old name).held (entry_at old name).gone, leaves.left at.0 name at.1)
     | inr absent ↦ (None, leaves.others name absent)
   ]
 
-  read_left : (name : ChunkName) (left : Option (List ℕ)) → entry_at new name ≡ resting_entry (option_map durable_file left) → read_of (port_of new) name ≡ left
+  read_left : (name : ChunkName) (left : Option (List ℕ)) → entry_at new name ≡ resting_entry (option_map durable_file left) → read_of (memory_port new) name ≡ left
   read_left name left is =
       ap (λ (e : Entry). option_map (λ (file : FileState). file.bytes) e.held) is ∙ read_durable left
 
-  held_rests : (name : ChunkName) (left : Option (List ℕ)) → entry_at new name ≡ resting_entry (option_map durable_file left) → (entry_at new name).held ≡ files_of (read_of (port_of new)) name
+  held_rests : (name : ChunkName) (left : Option (List ℕ)) → entry_at new name ≡ resting_entry (option_map durable_file left) → (entry_at new name).held ≡ durable_files (read_of (memory_port new)) name
   held_rests name left is =
       ap (λ (e : Entry). e.held) is ∙ sym (ap (option_map durable_file) (read_left name left is))
 
-  pub CrashesTo-leaves : CrashesTo pick (port_of old) (port_of new)
+  pub CrashesTo-leaves : CrashesTo pick (memory_port old) (memory_port new)
   CrashesTo-leaves = record {
     names = leaves.names;
     roll = leaves.roll;
@@ -299,7 +299,7 @@ module _ (pick : Pick) (old new : List Slot) (leaves : LeavesSlots pick old new)
     };
   }
 
-  pub IsPort-leaves : IsPort (port_of new)
+  pub IsPort-leaves : IsPort (memory_port new)
   IsPort-leaves = record {
     held_fits = λ name file held. durable_fits (rests name).0 file (sym (ap (λ (e : Entry). e.held) (rests name).1) ∙ held);
     gone_fits = λ name file gone. absurd (let e : None ≡ Some file = sym (ap (λ (e : Entry). e.gone) (rests name).1) ∙ gone in cc);
@@ -307,8 +307,8 @@ module _ (pick : Pick) (old new : List Slot) (leaves : LeavesSlots pick old new)
     fixed_lent = λ name fixed. absurd (false≢true (sym (ap (λ (e : Entry). e.fixed) (rests name).1) ∙ fixed));
   }
 
-  pub IsImage-leaves : IsPort (port_of old) → IsImage (port_of old).held (port_of old).gone (read_of (port_of new))
-  IsImage-leaves was name = elim (cases_Bool (is_present (port_of old) name)) [
+  pub IsImage-leaves : IsPort (memory_port old) → IsImage (memory_port old).held (memory_port old).gone (read_of (memory_port new))
+  IsImage-leaves was name = elim (cases_Bool (is_present (memory_port old) name)) [
     | inl present ↦
         let at = place_of name present in
         let draw = draw_at pick at.0 in

@@ -9,7 +9,7 @@ use Rattle.hr_base.specs.Names.{IsChunkName}
 use Rattle.mem_folder.specs.declared.chain.Entry.{Entry}
 use Rattle.mem_folder.specs.declared.chain.Slot.{Slot}
 use Rattle.dir_files.specs.Ports.{IsListing}
-use Rattle.mem_folder.specs.Memory.{entry_at, has_name, held_names, port_of}
+use Rattle.mem_folder.specs.Memory.{entry_at, has_name, held_names, memory_port}
 use Rattle.mem_folder.proofs.Slots.{entry_at-here, entry_at-past, entry_at-absent}
 
 -- one more element in front, that is none of the others
@@ -31,7 +31,7 @@ Contains-head x xs = (0, omega arith, refl)
 pub Contains-tail : {X : Type 0} (x : X) (xs : List X) (y : X) → Contains xs y → Contains (x ∷ xs) y
 Contains-tail x xs y there = Contains-append_right (x ∷ []) xs y there
 
-pub IsListing-empty : IsListing (port_of []) (held_names [])
+pub IsListing-empty : IsListing (memory_port []) (held_names [])
 unfolding entry_at held_names
 IsListing-empty = record {
   listed = λ name. (λ there. absurd (omega (arith, there.1)), λ held. absurd (false≢true held));
@@ -39,7 +39,7 @@ IsListing-empty = record {
   valid = All-nil IsChunkName;
 }
 
-module _ (slot : Slot) (slots : List Slot) (valid : IsChunkName slot.name) (absent : has_name slots slot.name ≡ false) (rest : IsListing (port_of slots) (held_names slots)) where
+module _ (slot : Slot) (slots : List Slot) (valid : IsChunkName slot.name) (absent : has_name slots slot.name ≡ false) (rest : IsListing (memory_port slots) (held_names slots)) where
   -- the name is none of the others that are held
   pub not_listed : Contains (held_names slots) slot.name → ⊥
   not_listed there =
@@ -66,7 +66,7 @@ module _ (slot : Slot) (slots : List Slot) (valid : IsChunkName slot.name) (abse
     | inr past ↦ held_at_past name past ∙ (rest.listed name).0 there
   ]
 
-  listing_more : is_some slot.entry.held ≡ true → IsListing (port_of (slot ∷ slots)) (slot.name ∷ held_names slots)
+  listing_more : is_some slot.entry.held ≡ true → IsListing (memory_port (slot ∷ slots)) (slot.name ∷ held_names slots)
   listing_more held = record {
     listed = λ name. (
       λ there. elim (Contains-cons_cases slot.name (held_names slots) name there) [
@@ -82,7 +82,7 @@ module _ (slot : Slot) (slots : List Slot) (valid : IsChunkName slot.name) (abse
     valid = All-cons IsChunkName slot.name (held_names slots) valid rest.valid;
   }
 
-  listing_same : is_some slot.entry.held ≡ false → IsListing (port_of (slot ∷ slots)) (held_names slots)
+  listing_same : is_some slot.entry.held ≡ false → IsListing (memory_port (slot ∷ slots)) (held_names slots)
   listing_same none = record {
     listed = λ name. (
       λ there. held_behind name there,
@@ -96,15 +96,15 @@ module _ (slot : Slot) (slots : List Slot) (valid : IsChunkName slot.name) (abse
   }
 
   -- with one more slot in front
-  pub IsListing-more : IsListing (port_of (slot ∷ slots)) (held_names (slot ∷ slots))
+  pub IsListing-more : IsListing (memory_port (slot ∷ slots)) (held_names (slot ∷ slots))
   IsListing-more = elim (cases_Bool (is_some slot.entry.held)) [
-    | inl held ↦ subst (IsListing (port_of (slot ∷ slots))) (sym (held_names-more held)) (listing_more held)
-    | inr none ↦ subst (IsListing (port_of (slot ∷ slots))) (sym (held_names-same none)) (listing_same none)
+    | inl held ↦ subst (IsListing (memory_port (slot ∷ slots))) (sym (held_names-more held)) (listing_more held)
+    | inr none ↦ subst (IsListing (memory_port (slot ∷ slots))) (sym (held_names-same none)) (listing_same none)
   ]
 
 -- the same at a chain's end, and at a node
-pub listing_at_end : (slots : List Slot) → slots ≡ [] → IsListing (port_of slots) (held_names slots)
-listing_at_end slots is = subst (λ (s : List Slot). IsListing (port_of s) (held_names s)) (sym is) IsListing-empty
+pub listing_at_end : (slots : List Slot) → slots ≡ [] → IsListing (memory_port slots) (held_names slots)
+listing_at_end slots is = subst (λ (s : List Slot). IsListing (memory_port s) (held_names s)) (sym is) IsListing-empty
 
 pub added_at_end : (slots : List Slot) (names : List ChunkName) → slots ≡ [] → names ≡ names ++ held_names slots
 unfolding held_names

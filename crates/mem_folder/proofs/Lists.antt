@@ -7,11 +7,11 @@ use Rattle.hr_base.specs.NameTests.{is_name}
 use Rattle.hr_base.proofs.NameTestLaws.{is_name-true, is_name-false}
 use Rattle.dir_files.specs.Files.{FileState}
 use Rattle.dir_files.specs.Ports.{IsPort, SamePort}
-use Rattle.dir_files.specs.Images.{Image, files_of, port_of_image}
+use Rattle.dir_files.specs.Images.{Image, durable_files, port_of_image}
 use Rattle.mem_folder.specs.declared.chain.Entry.{Entry}
 use Rattle.mem_folder.specs.declared.chain.Slot.{Slot}
 use Rattle.mem_folder.specs.Durables.{durable_file}
-use Rattle.mem_folder.specs.Memory.{joined, resting_entry, entry_at, Merges, port_of}
+use Rattle.mem_folder.specs.Memory.{joined, resting_entry, entry_at, Merges, memory_port}
 use Rattle.mem_folder.specs.Lists.{image_of, HoldsImage}
 use Rattle.mem_folder.proofs.Crashes.{durable_fits}
 use Rattle.mem_folder.proofs.MemPorts.{merged_changes}
@@ -52,7 +52,7 @@ holds_more old new slot file files holds merges same is name =
 
 module _ (slots : List Slot) (image : Image) (holds : HoldsImage slots image) where
   -- seen as a port, they are the image taken as a folder
-  pub SamePort-holds : SamePort (port_of_image image) (port_of slots)
+  pub SamePort-holds : SamePort (port_of_image image) (memory_port slots)
   SamePort-holds = record {
     held = λ name. ap (λ (e : Entry). e.held) (holds name);
     gone = λ name. ap (λ (e : Entry). e.gone) (holds name);
@@ -62,7 +62,7 @@ module _ (slots : List Slot) (image : Image) (holds : HoldsImage slots image) wh
     fixed = λ name. ap (λ (e : Entry). e.fixed) (holds name);
   }
 
-  pub IsPort-holds : IsPort (port_of slots)
+  pub IsPort-holds : IsPort (memory_port slots)
   IsPort-holds = record {
     held_fits = λ name file held. durable_fits (image name) file (sym (ap (λ (e : Entry). e.held) (holds name)) ∙ held);
     gone_fits = λ name file gone. absurd (let e : None ≡ Some file = sym (ap (λ (e : Entry). e.gone) (holds name)) ∙ gone in cc);

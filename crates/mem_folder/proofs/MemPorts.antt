@@ -8,16 +8,16 @@ use Rattle.mem_folder.specs.declared.chain.Entry.{Entry}
 use Rattle.mem_folder.specs.declared.chain.Slot.{Slot}
 use Rattle.dir_files.specs.Files.{FileState, ChangesAt, SameAt}
 use Rattle.dir_files.specs.Ports.{IsEmptyPort, IsFreeName, Takes, Creates, Gives, Removes, SyncsNames}
-use Rattle.mem_folder.specs.Memory.{joined, created_entry, lent_entry, returned_entry, removed_entry, synced_entry, entry_at, Merges, synced_slots, port_of}
+use Rattle.mem_folder.specs.Memory.{joined, created_entry, lent_entry, returned_entry, removed_entry, synced_entry, entry_at, Merges, synced_slots, memory_port}
 use Rattle.mem_folder.proofs.Slots.{entry_at-synced}
 
-empty_port : IsEmptyPort (port_of [])
+empty_port : IsEmptyPort (memory_port [])
 unfolding entry_at
 empty_port = record { held = λ name. refl; gone = λ name. refl; lent = λ name. refl; foreign = λ name. refl; created = λ name. refl; fixed = λ name. refl }
 
 -- no slot, no file and no name
-pub IsEmptyPort-empty : (slots : List Slot) → slots ≡ [] → IsEmptyPort (port_of slots)
-IsEmptyPort-empty slots is = subst (λ (s : List Slot). IsEmptyPort (port_of s)) (sym is) empty_port
+pub IsEmptyPort-empty : (slots : List Slot) → slots ≡ [] → IsEmptyPort (memory_port slots)
+IsEmptyPort-empty slots is = subst (λ (s : List Slot). IsEmptyPort (memory_port s)) (sym is) empty_port
 
 module _ (old new : List Slot) (name : ChunkName) (entry : Entry) (changes : ChangesAt (entry_at old) (entry_at new) name entry) where
   -- a part of the entries changes at the name alone
@@ -58,7 +58,7 @@ merged_changes old new slot name entry merges same is =
 
 module _ (old new : List Slot) (name : ChunkName) where
   -- a handle of a new file is out
-  pub Creates-joined : ChangesAt (entry_at old) (entry_at new) name (joined created_entry (entry_at old name)) → IsFreeName (port_of old) name → Creates (port_of old) (port_of new) name
+  pub Creates-joined : ChangesAt (entry_at old) (entry_at new) name (joined created_entry (entry_at old name)) → IsFreeName (memory_port old) name → Creates (memory_port old) (memory_port new) name
   Creates-joined changes free =
       let e = entry_at old name in
       record {
@@ -71,7 +71,7 @@ module _ (old new : List Slot) (name : ChunkName) where
       }
 
   -- a handle of the held file is out
-  pub Takes-lent : ChangesAt (entry_at old) (entry_at new) name (lent_entry (entry_at old name)) → Takes (port_of old) (port_of new) name
+  pub Takes-lent : ChangesAt (entry_at old) (entry_at new) name (lent_entry (entry_at old name)) → Takes (memory_port old) (memory_port new) name
   Takes-lent changes =
       record {
         held = part_changes old new name (lent_entry (entry_at old name)) changes (λ (x : Entry). x.held) None refl;
@@ -84,7 +84,7 @@ module _ (old new : List Slot) (name : ChunkName) where
 
   module _ (file : FileState) where
     -- a handle came back
-    pub Gives-joined : ChangesAt (entry_at old) (entry_at new) name (joined (returned_entry file) (entry_at old name)) → Gives (port_of old) (port_of new) name file
+    pub Gives-joined : ChangesAt (entry_at old) (entry_at new) name (joined (returned_entry file) (entry_at old name)) → Gives (memory_port old) (memory_port new) name file
     Gives-joined changes =
         let e = entry_at old name in
         record {
@@ -97,7 +97,7 @@ module _ (old new : List Slot) (name : ChunkName) where
         }
 
     -- a file was removed by its handle
-    pub Removes-joined : ChangesAt (entry_at old) (entry_at new) name (joined (removed_entry file) (entry_at old name)) → Removes (port_of old) (port_of new) name file
+    pub Removes-joined : ChangesAt (entry_at old) (entry_at new) name (joined (removed_entry file) (entry_at old name)) → Removes (memory_port old) (memory_port new) name file
     Removes-joined changes =
         let e = entry_at old name in
         record {
@@ -110,7 +110,7 @@ module _ (old new : List Slot) (name : ChunkName) where
         }
 
 -- every name is durable
-pub SyncsNames-synced : (old new : List Slot) → new ≡ synced_slots old → SyncsNames (port_of old) (port_of new)
+pub SyncsNames-synced : (old new : List Slot) → new ≡ synced_slots old → SyncsNames (memory_port old) (memory_port new)
 SyncsNames-synced old new syncs =
     let entry : (name : ChunkName) → entry_at new name ≡ synced_entry (entry_at old name) = λ name. ap (λ (s : List Slot). entry_at s name) syncs ∙ entry_at-synced old name in
     record {

@@ -8,7 +8,7 @@ use Rattle.dir_files.specs.Ports.{Port, SamePort, is_present}
 use Rattle.dir_files.specs.Images.{read_of, port_of_image}
 use Rattle.mem_folder.specs.declared.chain.Slot.{Slot}
 use Rattle.mem_folder.specs.Durables.{durable_file}
-use Rattle.mem_folder.specs.Memory.{blank, resting_entry, entry_at, has_name, port_of}
+use Rattle.mem_folder.specs.Memory.{blank, resting_entry, entry_at, has_name, memory_port}
 use Rattle.mem_folder.specs.Orders.{ComesBefore}
 use Rattle.mem_folder.specs.Picks.{draw_at, left_of}
 
@@ -30,7 +30,7 @@ pub record CrashesTo (pick : Pick) (old new : Port) : Type 0 where
 -- the same of slots
 pub record LeavesSlots (pick : Pick) (old new : List Slot) : Type 0 where
   pub names : List ChunkName
-  pub roll : IsRoll (port_of old) names
+  pub roll : IsRoll (memory_port old) names
   pub left : (place : ℕ) (name : ChunkName) → slice_get names place ≡ Some name → entry_at new name ≡ resting_entry (option_map durable_file (left_of pick (draw_at pick place) (entry_at old name).held (entry_at old name).gone))
-  pub others : (name : ChunkName) → is_present (port_of old) name ≡ false → entry_at new name ≡ blank
+  pub others : (name : ChunkName) → is_present (memory_port old) name ≡ false → entry_at new name ≡ blank
   pub kept : (other : ChunkName) → has_name new other ≡ has_name old other

@@ -4,7 +4,7 @@ use Rattle.std.specs.Option.{option_map}
 use Rattle.std.specs.declared.alloc.Global.{Global}
 use Rattle.hr_base.specs.declared.name.ChunkName.{ChunkName}
 use Rattle.hr_base.specs.NameTests.{is_name}
-use Rattle.dir_files.specs.Images.{Image, files_of}
+use Rattle.dir_files.specs.Images.{Image, durable_files}
 use Rattle.mem_folder.specs.declared.chain.Slot.{Slot}
 use Rattle.mem_folder.specs.Memory.{resting_entry, entry_at}
 
@@ -14,4 +14,4 @@ image_of files name = option_map (λ file. file.1.items) (find (λ file. is_name
 
 -- the slots hold this image, and nothing else is known
 abbrev pub HoldsImage : List Slot → Image → Type 0
-HoldsImage slots image = (name : ChunkName) → entry_at slots name ≡ resting_entry (files_of image name)
+HoldsImage slots image = (name : ChunkName) → entry_at slots name ≡ resting_entry (durable_files image name)

@@ -87,8 +87,8 @@ held_names (slot ∷ slots) =
     if is_some slot.entry.held then slot.name ∷ held_names slots else held_names slots
 
 -- what clauses see of all this
-abbrev pub port_of : List Slot → Port
-port_of slots = record {
+abbrev pub memory_port : List Slot → Port
+memory_port slots = record {
   held = λ name. (entry_at slots name).held;
   gone = λ name. (entry_at slots name).gone;
   lent = λ name. (entry_at slots name).lent;

@@ -9,15 +9,15 @@ abbrev pub next_state : ℕ → ℕ
 next_state state = (state * 6364136223846793005 + 1442695040888963407) % 2 ^ 64
 
 -- the state after so many draws
-unfoldable pub state_after : ℕ → ℕ → ℕ
-state_after seed zero = seed
-state_after seed (suc count) = next_state (state_after seed count)
+unfoldable pub draw_after : ℕ → ℕ → ℕ
+draw_after seed zero = seed
+draw_after seed (suc count) = next_state (draw_after seed count)
 
 -- the draw at this place; only a mixture draws
 abbrev pub draw_at : Pick → ℕ → ℕ
 draw_at Least place = 0
 draw_at Most place = 0
-draw_at (Mix seed) place = state_after seed (suc place) / 2 ^ 33
+draw_at (Mix seed) place = draw_after seed (suc place) / 2 ^ 33
 
 -- the same pick, with its first draw behind it
 abbrev pub next_pick : Pick → Pick

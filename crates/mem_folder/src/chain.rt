@@ -12,7 +12,7 @@ ghost use Rattle.mem_folder.specs.Crashes.{LeavesSlots};
 ghost use Rattle.mem_folder.specs.Durables.{durable_file};
 ghost use Rattle.mem_folder.specs.Lists.{image_of, HoldsImage};
 ghost use Rattle.mem_folder.specs.Picks.{draw_at, next_pick, left_of};
-ghost use Rattle.mem_folder.specs.Memory.{blank, resting_entry, created_entry, returned_entry, removed_entry, lent_entry, joined, synced_entry, entry_at, has_name, ChangesEntry, Merges, synced_slots, held_names, port_of};
+ghost use Rattle.mem_folder.specs.Memory.{blank, resting_entry, created_entry, returned_entry, removed_entry, lent_entry, joined, synced_entry, entry_at, has_name, ChangesEntry, Merges, synced_slots, held_names, memory_port};
 ghost use Rattle.hr_base.specs.NameTests.{is_name};
 ghost use Rattle.hr_base.specs.Names.{IsChunkName, name_text};
 ghost use Rattle.mem_folder.specs.Orders.{ComesBefore};
@@ -402,7 +402,7 @@ impl Chain {
     /// Adds the names of the held files.
     pub fn list(&self, names: &mut Vec<ChunkName>) -> Result<(), AllocError>
         ensures added { OnOk result (names.new.items ≡ names.old.items ++ held_names self.now) }
-        ensures listing { OnOk result (IsListing (port_of self.now) (held_names self.now)) }
+        ensures listing { OnOk result (IsListing (memory_port self.now) (held_names self.now)) }
     {
         match &self.link {
             Link::End => Ok(()),

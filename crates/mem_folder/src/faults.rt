@@ -2,7 +2,7 @@
 
 ghost use Rattle.std.specs.Prelude.{◌≡◌, ◌≤◌, ◌+◌, ◌-◌, ◌^◌, [], true, min, drop, slice_get};
 ghost use Rattle.dir_files.specs.Faults.{CountsFault};
-ghost use Rattle.mem_folder.specs.Plans.{FollowsPlan, ForksPlan, IsPlanned, KeepsPlan, is_sound};
+ghost use Rattle.mem_folder.specs.Plans.{FollowsPlan, ForksPlan, IsPlanned, KeepsPlan, fails, is_sound, next_call};
 
 use std::alloc::Global;
 
@@ -77,17 +77,25 @@ impl Faults {
         self.count = self.count.saturating_add(other.count);
     }
 
+    /// Whether the disk will refuse the next call.
+    pub fn is_due(&self) -> bool
+        ensures { result ≡ fails self.now.plan (next_call self.now.calls) }
+    {
+        let call = self.calls.saturating_add(1);
+        match &self.plan {
+            None => false,
+            Some(plan) => call >= plan.from || plan.calls.contains(&call),
+        }
+    }
+
     /// Counts a call, and answers whether the disk refuses it.
     pub fn strikes(&mut self) -> bool
         ensures planned { FollowsPlan self.old self.new result }
         ensures counts { CountsFault result self.old.count self.new.count }
         ensures sound { is_sound self.old ≡ true → is_sound self.new ≡ true }
     {
+        let struck = self.is_due();
         self.calls = self.calls.saturating_add(1);
-        let struck = match &self.plan {
-            None => false,
-            Some(plan) => self.calls >= plan.from || plan.calls.contains(&self.calls),
-        };
         if struck {
             self.count = self.count.saturating_add(1);
         }

@@ -1,6 +1,6 @@
 //! A handle of a file that lies in memory.
 
-ghost use Rattle.std.specs.Prelude.{◌≡◌, ◌≤◌, ◌/◌, ◌⊎◌, Some, IfOk, OnOk, OnErr, length, take};
+ghost use Rattle.std.specs.Prelude.{◌≡◌, ◌≤◌, Some, IfOk, OnOk, OnErr, length, take};
 ghost use Rattle.hr_base.specs.Names.{IsChunkName};
 ghost use Rattle.dir_files.specs.Files.{new_file, with_bytes, synced_file, named_file};
 
@@ -83,16 +83,6 @@ impl MemFile {
         ensures name { self.new.name ≡ self.old.name }
     {
         self.content.append(piece)
-    }
-
-    /// Adds the first half of these bytes, or none of them where there is no memory.
-    pub(crate) fn append_half(&mut self, piece: &[u8])
-        ensures appended { (self.new.content ≡ with_bytes self.old.content (take (length piece.now / 2) piece.now))
-            ⊎ (self.new.content ≡ self.old.content) }
-        ensures name { self.new.name ≡ self.old.name }
-    {
-        let half = &piece[..piece.len() / 2];
-        let _ = self.content.append(half);
     }
 
     /// Makes the bytes durable.

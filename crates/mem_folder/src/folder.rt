@@ -1,13 +1,13 @@
 //! A folder that lies in memory, and whose calls fail as planned.
 
-ghost use Rattle.std.specs.Prelude.{◌≡◌, ◌⊎◌, ◌≤◌, ◌+◌, ◌-◌, ◌/◌, ◌^◌, Some, None, [], true, false, All, length, min, take, MatchOption, IfOk, IsErrOf, IsSome, OnOk, OnErr};
+ghost use Rattle.std.specs.Prelude.{◌≡◌, ◌≤◌, ◌+◌, ◌-◌, ◌/◌, ◌^◌, Some, None, [], true, false, All, length, min, take, MatchOption, IfOk, IsErrOf, IsSome, OnOk, OnErr, if◌then◌else◌};
 ghost use Rattle.hr_base.specs.declared.name.ChunkName.{ChunkName};
 ghost use Rattle.hr_base.specs.Names.{IsChunkName};
 ghost use Rattle.dir_files.specs.Files.{FileState, new_file, with_bytes, synced_file, IsReadAt};
 ghost use Rattle.dir_files.specs.Images.{IsImage, read_of, port_of_image};
 ghost use Rattle.dir_files.specs.Ports.{IsEmptyPort, IsPort, SamePort, CanJoin, Joins, IsListing, IsFreeName, Takes, Creates, SyncsNames, Gives, Removes};
 ghost use Rattle.dir_files.specs.Faults.{is_fault, is_remove_fault, kept_file, CountsFault, StaysSound};
-ghost use Rattle.mem_folder.specs.Memory.{port_of};
+ghost use Rattle.mem_folder.specs.Memory.{memory_port};
 ghost use Rattle.mem_folder.specs.Crashes.{CrashesTo};
 ghost use Rattle.mem_folder.specs.Lists.{image_of};
 ghost use Rattle.mem_folder.specs.Moves.{MovesBytes};
@@ -22,13 +22,13 @@ use hr_base::{ChunkName, Memory, Pick};
 use std::alloc::Global;
 
 /// A port of a folder in memory. Its calls fail as its plan says, and it tells everything. A failed `create` leaves no
-/// file, and a failed `append` the first half of its piece, or nothing of it where there is no memory for that.
+/// file, and a failed `append` the first half of its piece.
 #[derive(Debug, Drop)]
 pub struct MemFolder {
     chain: Chain,
     faults: Faults,
     alloc: Global,
-    ghost lawful: { IsPort (port_of chain) },
+    ghost lawful: { IsPort (memory_port chain) },
 }
 
 impl MemFolder {
@@ -74,6 +74,19 @@ impl MemFolder {
         ensures none { result ≡ false → (name : ChunkName) → (⟦<MemFolder as Folder>⟧.port self.now).lent name ≡ false }
     {
         self.chain.lends()
+    }
+
+    /// Whether a file of this name may be created here: none is held, lent or foreign, and none may come back.
+    pub fn is_free(&self, name: ChunkName) -> bool
+        ensures free { result ≡ true → IsFreeName (⟦<MemFolder as Folder>⟧.port self.now) name }
+        ensures taken { result ≡ false → IsFreeName (⟦<MemFolder as Folder>⟧.port self.now) name → ⊥ }
+    {
+        match self.chain.entry(name) {
+            None => true,
+            Some(entry) => {
+                entry.held.is_none() && entry.gone.is_none() && !entry.lent && !entry.foreign
+            }
+        }
     }
 
     /// The folder after a crash, which has one of its outcomes, as `docs/FORMATS.md` states. No call of it fails. It takes
@@ -127,16 +140,27 @@ impl MemFolder {
     }
 }
 
+/// What is appended of a piece: all of it, or where the disk fails the first half.
+fn appended(piece: &[u8], fails: bool) -> &[u8]
+    ensures { result.now ≡ (if fails then take (length piece.now / 2) piece.now else piece.now) }
+{
+    if fails {
+        &piece[..piece.len() / 2]
+    } else {
+        piece
+    }
+}
+
 impl Folder for MemFolder {
     type File = MemFile;
 
     ghost use Rattle.std.specs.Prelude.{true, refl};
-    ghost use Rattle.mem_folder.specs.Memory.{port_of};
+    ghost use Rattle.mem_folder.specs.Memory.{memory_port};
     ghost use Rattle.mem_folder.specs.Plans.{is_sound, sound_count};
 
     ghost tells = { true };
 
-    ghost port = { λ folder. port_of folder.chain };
+    ghost port = { λ folder. memory_port folder.chain };
 
     ghost state = { λ file. file.content };
 
@@ -157,7 +181,7 @@ impl Folder for MemFolder {
     }
 
     fn fork(&mut self) -> Result<MemFolder, Memory>
-        ensures fresh { IfOk result (λ fork. IsEmptyPort (port_of fork.chain)) }
+        ensures fresh { IfOk result (λ fork. IsEmptyPort (memory_port fork.chain)) }
         ensures fresh_count { IfOk result (λ fork. fork.faults.count ≡ 0) }
         ensures fresh_sound { is_sound self.old.faults ≡ true → IfOk result (λ fork. is_sound fork.faults ≡ true) }
         ensures planned { IfOk result (λ fork. ForksPlan self.old.faults self.new.faults fork.faults) }
@@ -173,8 +197,8 @@ impl Folder for MemFolder {
     }
 
     fn adopt(&mut self, other: MemFolder)
-        requires { CanJoin (port_of self.old.chain) (port_of other.chain) }
-        ensures joined { Joins (port_of self.old.chain) (port_of other.chain) (port_of self.new.chain) }
+        requires { CanJoin (memory_port self.old.chain) (memory_port other.chain) }
+        ensures joined { Joins (memory_port self.old.chain) (memory_port other.chain) (memory_port self.new.chain) }
         ensures planned { KeepsPlan self.old.faults self.new.faults }
         ensures added { self.new.faults.count ≡ min (self.old.faults.count + other.faults.count) (2 ^ 64 - 1) }
         ensures kept { self.old.faults.count ≤ self.new.faults.count }
@@ -194,7 +218,7 @@ impl Folder for MemFolder {
 
     fn names(&mut self) -> Result<Vec<ChunkName>, FolderRefusal>
         ensures valid { IfOk result (λ names. All IsChunkName names.items) }
-        ensures listed { IfOk result (λ names. IsListing (port_of self.old.chain) names.items) }
+        ensures listed { IfOk result (λ names. IsListing (memory_port self.old.chain) names.items) }
         ensures same { self.new.chain ≡ self.old.chain }
         ensures planned { FollowsPlan self.old.faults self.new.faults (is_fault result) }
         ensures counts { CountsFault (is_fault result) self.old.faults.count self.new.faults.count }
@@ -208,9 +232,9 @@ impl Folder for MemFolder {
 
     fn take(&mut self, name: ChunkName) -> Result<MemFile, FolderRefusal>
         requires valid { IsChunkName name }
-        requires held { IsSome ((port_of self.old.chain).held name) }
-        ensures taken { OnOk result (Takes (port_of self.old.chain) (port_of self.new.chain) name) }
-        ensures file { IfOk result (λ file. (file.name ≡ name) × (Some file.content ≡ (port_of self.old.chain).held name)) }
+        requires held { IsSome ((memory_port self.old.chain).held name) }
+        ensures taken { OnOk result (Takes (memory_port self.old.chain) (memory_port self.new.chain) name) }
+        ensures file { IfOk result (λ file. (file.name ≡ name) × (Some file.content ≡ (memory_port self.old.chain).held name)) }
         ensures refused { OnErr result (self.new.chain ≡ self.old.chain) }
         ensures planned { FollowsPlan self.old.faults self.new.faults (is_fault result) }
         ensures counts { CountsFault (is_fault result) self.old.faults.count self.new.faults.count }
@@ -224,8 +248,8 @@ impl Folder for MemFolder {
 
     fn create(&mut self, name: ChunkName) -> Result<MemFile, FolderRefusal>
         requires valid { IsChunkName name }
-        requires free { IsFreeName (port_of self.old.chain) name }
-        ensures created { OnOk result (Creates (port_of self.old.chain) (port_of self.new.chain) name) }
+        requires free { IsFreeName (memory_port self.old.chain) name }
+        ensures created { OnOk result (Creates (memory_port self.old.chain) (memory_port self.new.chain) name) }
         ensures file { IfOk result (λ file. (file.name ≡ name) × (file.content ≡ new_file)) }
         ensures refused { OnErr result (self.new.chain ≡ self.old.chain) }
         ensures planned { FollowsPlan self.old.faults self.new.faults (is_fault result) }
@@ -240,24 +264,21 @@ impl Folder for MemFolder {
         Ok(file)
     }
 
+    /// Memory is taken before the call counts.
     fn append(&mut self, file: &mut MemFile, piece: &[u8]) -> Result<(), FolderRefusal>
         ensures appended { OnOk result (file.new.content ≡ with_bytes file.old.content piece.now) }
         ensures failed { IsErrOf result FolderRefusal.Fault
-            → (file.new.content ≡ with_bytes file.old.content (take (length piece.now / 2) piece.now))
-            ⊎ (file.new.content ≡ file.old.content) }
+            → file.new.content ≡ with_bytes file.old.content (take (length piece.now / 2) piece.now) }
         ensures memory { IsErrOf result FolderRefusal.Memory → file.new.content ≡ file.old.content }
+        ensures uncounted { IsErrOf result FolderRefusal.Memory → self.new ≡ self.old }
         ensures name { file.new.name ≡ file.old.name }
         ensures same { self.new.chain ≡ self.old.chain }
-        ensures planned { FollowsPlan self.old.faults self.new.faults (is_fault result) }
+        ensures planned { (IsErrOf result FolderRefusal.Memory → ⊥) → FollowsPlan self.old.faults self.new.faults (is_fault result) }
         ensures counts { CountsFault (is_fault result) self.old.faults.count self.new.faults.count }
         ensures stays_sound { StaysSound (is_sound self.old.faults) (is_sound self.new.faults) self.new.faults.count }
     {
-        if let Err(refusal) = self.strike() {
-            file.append_half(piece);
-            return Err(refusal);
-        }
-        file.append(piece)?;
-        Ok(())
+        file.append(appended(piece, self.faults.is_due()))?;
+        self.strike()
     }
 
     fn sync_file(&mut self, file: &mut MemFile) -> Result<(), FolderRefusal>
@@ -275,7 +296,7 @@ impl Folder for MemFolder {
     }
 
     fn sync_names(&mut self) -> Result<(), FolderRefusal>
-        ensures synced { OnOk result (SyncsNames (port_of self.old.chain) (port_of self.new.chain)) }
+        ensures synced { OnOk result (SyncsNames (memory_port self.old.chain) (memory_port self.new.chain)) }
         ensures refused { OnErr result (self.new.chain ≡ self.old.chain) }
         ensures planned { FollowsPlan self.old.faults self.new.faults (is_fault result) }
         ensures counts { CountsFault (is_fault result) self.old.faults.count self.new.faults.count }
@@ -311,7 +332,7 @@ impl Folder for MemFolder {
     }
 
     fn remove(&mut self, file: MemFile) -> Result<(), RemoveRefusal<MemFile>>
-        ensures removed { Removes (port_of self.old.chain) (port_of self.new.chain) file.name file.content }
+        ensures removed { Removes (memory_port self.old.chain) (memory_port self.new.chain) file.name file.content }
         ensures done { kept_file result ≡ None }
         ensures planned { FollowsPlan self.old.faults self.new.faults (is_remove_fault result) }
         ensures counts { CountsFault (is_remove_fault result) self.old.faults.count self.new.faults.count }
@@ -327,13 +348,10 @@ impl Folder for MemFolder {
     }
 
     fn give(&mut self, file: MemFile)
-        ensures given { Gives (port_of self.old.chain) (port_of self.new.chain) file.name file.content }
+        ensures given { Gives (memory_port self.old.chain) (memory_port self.new.chain) file.name file.content }
         ensures same { self.new.faults ≡ self.old.faults }
     {
         let (slot, node) = file.into_slot();
         self.chain.merge(slot, node);
     }
 }
-
-#[cfg(test)]
-mod tests;

@@ -10,8 +10,9 @@ use Rattle.hr_base.specs.Names.{class_of_kind}
 use Rattle.hr_base.specs.NameTests.{is_name}
 use Rattle.hr_base.proofs.NameTestLaws.{is_name-same}
 use Rattle.dir_files.specs.Files.{FileState, Files, ChangesAt, SameAt, IsFile, IsDurable, KeepsMore, Rises}
-use Rattle.dir_files.specs.Images.{Image, files_of as found_files}
+use Rattle.dir_files.specs.Images.{Image, durable_files as found_files}
 use Rattle.dir_files.specs.Ports.{either_file}
+use Rattle.dir_files.proofs.JoinLaws.{either_alone, rises_same}
 use Rattle.value_chunk.specs.Chunks.{Chunk}
 use Rattle.writer_chunks.specs.Lanes.{LaneState, empty_lane, takes, taking_fits}
 use Rattle.writer_files.specs.Stocks.{Stock, lane_of, taking_of, is_chunk_of}
@@ -28,17 +29,10 @@ pub none_unless : {A : Type 0} (o : Option A) → ((x : A) → o ≡ Some x → 
 none_unless None never = refl
 none_unless (Some x) never = absurd (never x refl)
 
-pub some_not_none : {A : Type 0} (o : Option A) (x : A) → o ≡ None → o ≡ Some x → ⊥
-some_not_none o x none some = cc
-
 pub some_same : {A : Type 0} (o : Option A) (x y : A) → o ≡ Some x → o ≡ Some y → x ≡ y
 some_same o x y first second = cc
 
 -- ---- the union
-
-either_none : (x : Option FileState) → either_file x None ≡ x
-either_none None = refl
-either_none (Some file) = refl
 
 -- a chunk that a writer began was not found
 pub own_not_found : (p : ℕ) (b : Beginning) (name : ChunkName) → IsBeginning p b → IsOwnName p b.first_chunk name → b.found name ≡ None
@@ -48,7 +42,7 @@ own_not_found p b name is own =
 -- the file of such a chunk is the writer's own
 pub all_own : (files : Files) (found : Image) (name : ChunkName) → found name ≡ None → all_files files found name ≡ files name
 all_own files found name none =
-    ap (λ (o : Option (List ℕ)). either_file (files name) (option_map (λ bytes. record { bytes = bytes; front = length bytes; named = true }) o)) none ∙ either_none (files name)
+    ap (λ (o : Option (List ℕ)). either_file (files name) (option_map (λ bytes. record { bytes = bytes; front = length bytes; named = true }) o)) none ∙ either_alone (files name)
 
 pub all_alike : (old new : Files) (found : Image) (name : ChunkName) → new name ≡ old name → all_files new found name ≡ all_files old found name
 all_alike old new found name same = ap (λ (o : Option FileState). either_file o (found_files found name)) same
@@ -61,13 +55,6 @@ changes_all old new found name file none changes = record {
 }
 
 -- ---- crashes keep more of each
-
-keeps_same : (file : FileState) → KeepsMore file file
-keeps_same file = record { bytes = refl; front = omega arith; named = λ named. named }
-
-rises_same : (o : Option FileState) → Rises o o
-rises_same None = refl
-rises_same (Some file) = keeps_same file
 
 rises_either : (old new other : Option FileState) → Rises old new → Rises (either_file old other) (either_file new other)
 rises_either None None other h = rises_same other

@@ -11,7 +11,7 @@ use Rattle.hr_base.specs.Names.{class_of_kind}
 use Rattle.hr_base.specs.NameTests.{is_name}
 use Rattle.hr_base.proofs.NameTestLaws.{same_name_or_not}
 use Rattle.dir_files.specs.Files.{FileState, Files, ChangesAt, SameAt, IsFile, IsDurable, Rises, new_file, with_bytes}
-use Rattle.dir_files.specs.Images.{Image, files_of as found_files}
+use Rattle.dir_files.specs.Images.{Image, durable_files as found_files}
 use Rattle.dir_files.specs.Ports.{either_file}
 use Rattle.record_format.specs.declared.record.Record.{Record}
 use Rattle.record_format.specs.declared.record.Record.TheVariants as record_of
@@ -28,14 +28,15 @@ use Rattle.crash_law.specs.Crashes.{PartSurvives}
 use Rattle.crash_law.specs.Restarts.{RestartsAs}
 use Rattle.crash_law.specs.Growth.{file_or_new, MayBeNew, PartRises}
 use Rattle.crash_law.specs.Placed.{Placed, IsPlaced}
-use Rattle.crash_law.specs.Writers.{AppendsRecord, BeginsWith, CreatesFile, KeepsRecords, LosesRecord, NotesRecord, StandsFor, SyncsRecords, TakesNew, Written}
+use Rattle.crash_law.specs.Writers.{AppendsRecord, BeginsFrom, CreatesFile, KeepsRecords, LosesRecord, NotesRecord, StandsFor, SyncsRecords, TakesNew, Written}
 use Rattle.crash_law.proofs.WriterLaws.{stand_begun, stand_appended, stand_torn, stand_lost, stand_risen, stand_new, stand_synced, stand_unwritten, stand_whole_in, stand_survives, stand_exact}
 use Rattle.crash_law.proofs.PartLaws.{part_survives, part_restarts}
 use Rattle.partition_writer.specs.Standing.{Beginning, HoldsTail, IsBeginning, IsOwnName, Standing, Stands, all_files, chunk_for, limit_of, next_name, placed_in, start_of, written, writer_kind}
-use Rattle.partition_writer.specs.Storing.{Adds, AddsEmpty, IsBelow, IsOpen, NamesOwn, TakesIn}
-use Rattle.partition_writer.specs.Answers.{Notes}
+use Rattle.partition_writer.specs.Storing.{AppendsTo, AddsEmpty, IsBelow, IsOpen, NamesOwn, TakesIn}
+use Rattle.partition_writer.specs.Answers.{NotesCommand}
 use Rattle.partition_writer.specs.Answers as answers
-use Rattle.partition_writer.proofs.FileLaws.{all_alike, all_own, changes_all, chosen_cases, class_of_writer_kind, durable_all, fits_all, none_unless, own_not_found, rises_all, some_not_none, taking_named}
+use Rattle.dir_files.proofs.JoinLaws.{no_some}
+use Rattle.partition_writer.proofs.FileLaws.{all_alike, all_own, changes_all, chosen_cases, class_of_writer_kind, durable_all, fits_all, none_unless, own_not_found, rises_all, taking_named}
 use Rattle.partition_writer.proofs.StoreLaws.{fits_within}
 
 -- ---- the chunk that a record goes to
@@ -101,7 +102,7 @@ module _ (s t : Standing) (b : Beginning) (a : Account) (r : Record) (h : Stands
     ]
   ]
 
-  notes_record : Notes s t r → NotesRecord (written s b.found) (written t b.found) (placed_in s r)
+  notes_record : NotesCommand s t r → NotesRecord (written s b.found) (written t b.found) (placed_in s r)
   notes_record notes = record {
     partition = ap (λ (p : Partition). p.0) notes.partition;
     gone = λ n. refl;
@@ -110,7 +111,7 @@ module _ (s t : Standing) (b : Beginning) (a : Account) (r : Record) (h : Stands
     taking = takes_new;
   }
 
-  appends : (piece : List ℕ) → Notes s t r → Adds (files_of s.stock) (files_of t.stock) name (spelling r) piece
+  appends : (piece : List ℕ) → NotesCommand s t r → AppendsTo (files_of s.stock) (files_of t.stock) name (spelling r) piece
       → AppendsRecord (written s b.found) (written t b.found) (placed_in s r) piece
   appends piece notes adds =
       let is = all_own (files_of s.stock) b.found name not_found in record {
@@ -152,16 +153,16 @@ module _ (s t : Standing) (b : Beginning) (a : Account) (r : Record) (h : Stands
     }
 
   -- the command was answered
-  pub stand_ok : Notes s t r → s.next_chunk ≤ t.next_chunk → s.lost ≡ false → t.lost ≡ false → t.maps ≡ maps_after (command_of r) s.maps
-      → is_written (command_of r) s.maps ≡ true → Adds (files_of s.stock) (files_of t.stock) name (spelling r) (spelling r)
+  pub stand_ok : NotesCommand s t r → s.next_chunk ≤ t.next_chunk → s.lost ≡ false → t.lost ≡ false → t.maps ≡ maps_after (command_of r) s.maps
+      → is_written (command_of r) s.maps ≡ true → AppendsTo (files_of s.stock) (files_of t.stock) name (spelling r) (spelling r)
       → Stands t b (answered a (command_of r))
   stand_ok notes from whole none maps is adds =
       stands_with notes.partition from adds.changes.others (answered a (command_of r))
       (stand_appended (written s b.found) (written t b.found) (start_of b) a (placed_in s r) h.facts whole (appends (spelling r) notes adds) none maps is)
 
   -- the disk refused its record
-  pub stand_fault : Notes s t r → s.next_chunk ≤ t.next_chunk → s.lost ≡ false → t.lost ≡ true → t.maps ≡ s.maps
-      → ((n : ℕ) × Adds (files_of s.stock) (files_of t.stock) name (spelling r) (take n (spelling r)))
+  pub stand_fault : NotesCommand s t r → s.next_chunk ≤ t.next_chunk → s.lost ≡ false → t.lost ≡ true → t.maps ≡ s.maps
+      → ((n : ℕ) × AppendsTo (files_of s.stock) (files_of t.stock) name (spelling r) (take n (spelling r)))
       ⊎ ((files_of s.stock name ≡ None) × (SameAt (files_of s.stock) (files_of t.stock) ⊎ AddsEmpty (files_of s.stock) (files_of t.stock) name))
       → Stands t b (refused a (command_of r))
   stand_fault notes from whole some maps (inl torn) =
@@ -180,7 +181,7 @@ module _ (s t : Standing) (b : Beginning) (a : Account) (r : Record) (h : Stands
         noted = notes_record notes;
       }) some maps)
 
-  keeps_written : answers.KeepsRecords s t → KeepsRecords (written s b.found) (written t b.found)
+  keeps_written : answers.KeepsNoted s t → KeepsRecords (written s b.found) (written t b.found)
   keeps_written keeps = record {
     partition = ap (λ (p : Partition). p.0) keeps.partition;
     gone = λ n. refl;
@@ -192,7 +193,7 @@ module _ (s t : Standing) (b : Beginning) (a : Account) (r : Record) (h : Stands
   }
 
   -- there was no memory for it
-  pub stand_memory : answers.KeepsRecords s t → s.next_chunk ≤ t.next_chunk → s.lost ≡ false → IsBelow (files_of s.stock) s.next_chunk
+  pub stand_memory : answers.KeepsNoted s t → s.next_chunk ≤ t.next_chunk → s.lost ≡ false → IsBelow (files_of s.stock) s.next_chunk
       → SameAt (files_of s.stock) (files_of t.stock) ⊎ AddsEmpty (files_of s.stock) (files_of t.stock) name → Stands t b a
   stand_memory keeps from whole below (inl same) =
       let next : ChunkName = next_name s (class_of_record r) in
@@ -232,7 +233,7 @@ stand_resumed s b is none takes maps records next chunk whole = record {
     taking = takes;
   });
   from = omega (arith, chunk);
-  own = λ name file is. absurd (some_not_none (files_of s.stock name) file (none name) is);
+  own = λ name file is. absurd (no_some (files_of s.stock name) file (none name) is);
   taking = λ name taking. absurd (false≢true (sym (takes name) ∙ taking));
 }
 
@@ -249,7 +250,7 @@ same_taking old new keeps name is =
 
 -- a file that is there after was there before
 was_there : (o p : Option FileState) (file : FileState) → Rises o p → p ≡ Some file → (before : FileState) × (o ≡ Some before)
-was_there None p file rises is = absurd (some_not_none p file rises is)
+was_there None p file rises is = absurd (no_some p file rises is)
 was_there (Some before) p file rises is = (before, refl)
 
 module _ (s t : Standing) (b : Beginning) (a : Account) (h : Stands s b a) (partition : t.partition ≡ s.partition) (next_chunk : t.next_chunk ≡ s.next_chunk)
@@ -273,7 +274,7 @@ module _ (s t : Standing) (b : Beginning) (a : Account) (h : Stands s b a) (part
   }
 
   -- a sync was refused
-  pub stand_unsynced : answers.KeepsRecords s t → Stands t b a
+  pub stand_unsynced : answers.KeepsNoted s t → Stands t b a
   stand_unsynced same =
       stands_on a (stand_risen (written s b.found) (written t b.found) (start_of b) a h.facts (record {
         partition = ap (λ (p : Partition). p.0) partition;

@@ -19,8 +19,9 @@ use Rattle.writer_files.specs.Stocks.{IsSettled, Stock, lane_of, files_of, takin
 use Rattle.writer_files.specs.StockCalls.{AppendsAny, BeginsAny, Extends, ExtendsFile, KeepsChunk, KeepsOthers, KeepsTaking}
 use Rattle.writer_files.proofs.ClassLaws.{same_class_or_not}
 use Rattle.partition_writer.specs.Standing.{chosen, name_or, writer_kind}
-use Rattle.partition_writer.specs.Storing.{AddsEmpty, Fills, IsBelow, IsNamedFor, IsReady, NamesOwn, StoresIn, size_of, without_offset}
-use Rattle.partition_writer.proofs.FileLaws.{class_of_writer_kind, some_not_none, some_same}
+use Rattle.partition_writer.specs.Storing.{AddsEmpty, Fills, IsBelow, IsNamedFor, IsUntorn, NamesOwn, StoresIn, size_of, without_offset}
+use Rattle.dir_files.proofs.JoinLaws.{no_some}
+use Rattle.partition_writer.proofs.FileLaws.{class_of_writer_kind, some_same}
 use Rattle.partition_writer.proofs.StoreLaws.{adds_after, kept_after}
 
 -- ---- one lane changes
@@ -32,8 +33,8 @@ others_own p old new class own others here other chunk is = elim (same_class_or_
   | inr apart ↦ own other chunk (ap (λ (lane : LaneState). lane.taking) (sym (others other apart)) ∙ is)
 ]
 
-pub others_ready : (old new : Stock) (class : Class) → IsReady old → KeepsOthers class old new
-    → ((chunk : Chunk) → (lane_of new class).taking ≡ Some chunk → chunk.torn ≡ false) → IsReady new
+pub others_ready : (old new : Stock) (class : Class) → IsUntorn old → KeepsOthers class old new
+    → ((chunk : Chunk) → (lane_of new class).taking ≡ Some chunk → chunk.torn ≡ false) → IsUntorn new
 others_ready old new class ready others here other chunk is = elim (same_class_or_not other class) [
   | inl same ↦ here chunk (ap (λ (c : Class). (lane_of new c).taking) (sym same) ∙ is)
   | inr apart ↦ ready other chunk (ap (λ (lane : LaneState). lane.taking) (sym (others other apart)) ∙ is)
@@ -43,7 +44,7 @@ others_ready old new class ready others here other chunk is = elim (same_class_o
 pub same_own : (p : Partition) (old new : Stock) → NamesOwn p old → ((class : Class) → lane_of new class ≡ lane_of old class) → NamesOwn p new
 same_own p old new own same class chunk is = own class chunk (ap (λ (lane : LaneState). lane.taking) (sym (same class)) ∙ is)
 
-pub same_ready : (old new : Stock) → IsReady old → ((class : Class) → lane_of new class ≡ lane_of old class) → IsReady new
+pub same_ready : (old new : Stock) → IsUntorn old → ((class : Class) → lane_of new class ≡ lane_of old class) → IsUntorn new
 same_ready old new ready same class chunk is = ready class chunk (ap (λ (lane : LaneState). lane.taking) (sym (same class)) ∙ is)
 
 pub refused_lanes : (tells : Bool) (refusal : FolderRefusal) (old new : Stock) (name : ChunkName) → BeginsAny tells (Err refusal) old new name
@@ -66,7 +67,7 @@ begun_own tells old new class name kind own begins =
       kind = ap (λ (n : ChunkName). n.kind) told.name ∙ kind;
     })
 
-pub begun_ready : (tells : Bool) (old new : Stock) (name : ChunkName) → IsReady old → BeginsAny tells (Ok tt) old new name → IsReady new
+pub begun_ready : (tells : Bool) (old new : Stock) (name : ChunkName) → IsUntorn old → BeginsAny tells (Ok tt) old new name → IsUntorn new
 begun_ready tells old new name ready begins =
     others_ready old new (class_of_kind name.kind) ready begins.others (λ chunk is. (told_as tells name (lane_of new (class_of_kind name.kind)).taking chunk begins.lane.taking is).torn)
 
@@ -122,7 +123,7 @@ module _ (tells : Bool) (answer : Result ℕ FolderRefusal) (old new : Stock) (c
         kind = ap (λ (n : ChunkName). n.kind) (after_name chunk is) ∙ before.kind;
       })
 
-  pub appended_ready : answer ≢ Err Fault → IsReady old → IsReady new
+  pub appended_ready : answer ≢ Err Fault → IsUntorn old → IsUntorn new
   appended_ready whole ready =
       others_ready old new class ready appends.others (λ chunk is.
       ap (λ (c : Chunk). c.torn) (some_same (lane_of new class).taking chunk appended.after is appended.is)
@@ -212,13 +213,13 @@ kept_own p old new own keeps class chunk is =
       kind = ap (λ (n : ChunkName). n.kind) before.2.name ∙ named.kind;
     }
 
-pub kept_ready : (old new : Stock) → IsReady old → KeepsTaking old new → IsReady new
+pub kept_ready : (old new : Stock) → IsUntorn old → KeepsTaking old new → IsUntorn new
 kept_ready old new ready keeps class chunk is =
     let before = kept_chunk (lane_of old class).taking (lane_of new class).taking chunk (keeps class) is in
     before.2.torn ∙ ready class before.0 before.1
 
 was_before : (o p : Option FileState) (file : FileState) → Rises o p → p ≡ Some file → (before : FileState) × (o ≡ Some before)
-was_before None p file rises is = absurd (some_not_none p file rises is)
+was_before None p file rises is = absurd (no_some p file rises is)
 was_before (Some before) p file rises is = (before, refl)
 
 pub kept_below : (old new : Files) (number : ℕ) → IsBelow old number → EachRises old new → IsBelow new number
@@ -231,7 +232,7 @@ kept_below old new number below rises name file is =
 pub none_own : (p : Partition) (stock : Stock) → ((class : Class) (chunk : Chunk) → (lane_of stock class).taking ≡ Some chunk → ⊥) → NamesOwn p stock
 none_own p stock none class chunk is = absurd (none class chunk is)
 
-pub none_ready : (stock : Stock) → ((class : Class) (chunk : Chunk) → (lane_of stock class).taking ≡ Some chunk → ⊥) → IsReady stock
+pub none_ready : (stock : Stock) → ((class : Class) (chunk : Chunk) → (lane_of stock class).taking ≡ Some chunk → ⊥) → IsUntorn stock
 none_ready stock none class chunk is = absurd (none class chunk is)
 
 -- and nothing is to be synced

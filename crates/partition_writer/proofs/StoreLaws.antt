@@ -6,7 +6,7 @@ use Rattle.dir_files.specs.Files.{FileState, Files, ChangesAt, SameAt, new_file,
 use Rattle.value_chunk.specs.Chunks.{fits}
 use Rattle.writer_files.specs.StockCalls.{Extends}
 use Rattle.crash_law.specs.Growth.{file_or_new}
-use Rattle.partition_writer.specs.Storing.{Adds, AddsEmpty}
+use Rattle.partition_writer.specs.Storing.{AppendsTo, AddsEmpty}
 
 -- the file that was extended, where it was there before, or was created
 extended : (o : Option FileState) (file : FileState) → o ≡ Some file → file ≡ file_or_new o
@@ -25,7 +25,7 @@ others_before old mid name (inr adds) other apart = adds.changes.others other ap
 
 -- a chunk was begun where there is no room, and the record appended to it
 pub adds_after : (old mid new : Files) (name : ChunkName) (bytes piece : List ℕ) → SameAt old mid ⊎ AddsEmpty old mid name → Extends mid new name bytes piece
-    → Adds old new name bytes piece
+    → AppendsTo old new name bytes piece
 adds_after old mid new name bytes piece room extends =
     let is = file_before old mid name extends.file room extends.was in record {
       room = subst (λ (file : FileState). fits (length file.bytes) (length bytes) MAX_CHUNK_LIMIT ≡ true) is extends.room;

@@ -38,7 +38,7 @@ pub record KeepsChunks (s t : Standing) (class : Class) (len : ℕ) : Type 0 whe
   pub next_chunk : (t.next_chunk ≡ s.next_chunk) ⊎ (t.next_chunk ≡ number_after (has_room s class len) s.next_chunk)
 
 -- the record was put behind the others, with the next number
-pub record Notes (s t : Standing) (r : Record) : Type 0 where
+pub record NotesCommand (s t : Standing) (r : Record) : Type 0 where
   pub partition : t.partition ≡ s.partition
   pub limits : t.limits ≡ s.limits
   pub records : t.records ≡ s.records ++ placed_in s r ∷ []
@@ -46,19 +46,19 @@ pub record Notes (s t : Standing) (r : Record) : Type 0 where
 
 -- the command was answered: its record is in its chunk, and the maps are those after it
 pub record Writes (s t : Standing) (r : Record) : Type 0 where
-  pub notes : Notes s t r
+  pub notes : NotesCommand s t r
   pub maps : t.maps ≡ maps_after (command_of r) s.maps
   pub lost : t.lost ≡ s.lost
   pub fills : FillsFor s t (class_of_record r) (length (spelling r))
 
 -- the disk refused it: its record may be lost, and the maps stay
 pub record Loses (s t : Standing) (r : Record) : Type 0 where
-  pub notes : Notes s t r
+  pub notes : NotesCommand s t r
   pub maps : t.maps ≡ s.maps
   pub lost : t.lost ≡ true
 
 -- maps, records and numbers stay
-pub record KeepsRecords (s t : Standing) : Type 0 where
+pub record KeepsNoted (s t : Standing) : Type 0 where
   pub partition : t.partition ≡ s.partition
   pub limits : t.limits ≡ s.limits
   pub maps : t.maps ≡ s.maps
@@ -70,7 +70,7 @@ pub record KeepsRecords (s t : Standing) : Type 0 where
 abbrev pub WritesRecord : {T : Type 0} → Result T WriteRefusal → Standing → Standing → Record → Type 0
 WritesRecord (Ok before) s t r = Writes s t r
 WritesRecord (Err DiskFault) s t r = Loses s t r
-WritesRecord (Err Memory) s t r = KeepsRecords s t × KeepsChunks s t (class_of_record r) (length (spelling r))
+WritesRecord (Err Memory) s t r = KeepsNoted s t × KeepsChunks s t (class_of_record r) (length (spelling r))
 WritesRecord (Err (Halted at)) s t r = t ≡ s
 WritesRecord (Err (Spent next)) s t r = t ≡ s
 
@@ -114,8 +114,8 @@ pub record Syncs (s t : Standing) : Type 0 where
 -- a sync was to be made; where it was refused, files may have been synced
 abbrev pub SyncsAll : {T : Type 0} → Result T WriteRefusal → Standing → Standing → Type 0
 SyncsAll (Ok seq) s t = Syncs s t
-SyncsAll (Err DiskFault) s t = KeepsRecords s t
-SyncsAll (Err Memory) s t = KeepsRecords s t × (t.next_chunk ≡ s.next_chunk) × KeepsTaking s.stock t.stock
+SyncsAll (Err DiskFault) s t = KeepsNoted s t
+SyncsAll (Err Memory) s t = KeepsNoted s t × (t.next_chunk ≡ s.next_chunk) × KeepsTaking s.stock t.stock
 SyncsAll (Err (Halted at)) s t = t ≡ s
 SyncsAll (Err (Spent next)) s t = ⊥
 

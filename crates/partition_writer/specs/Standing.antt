@@ -12,7 +12,7 @@ use Rattle.hr_base.specs.Names.{class_of_kind}
 use Rattle.hr_base.specs.Entries.{Entries}
 use Rattle.dir_files.specs.Files.{FileState, Files}
 use Rattle.dir_files.specs.Ports.{either_file}
-use Rattle.dir_files.specs.Images.{Image, files_of as found_files}
+use Rattle.dir_files.specs.Images.{Image, durable_files as found_files}
 use Rattle.record_format.specs.declared.record.Record.{Record}
 use Rattle.record_format.specs.Spelling.{class_of_record, spelling}
 use Rattle.value_chunk.specs.Chunks.{Chunk}
@@ -20,7 +20,7 @@ use Rattle.writer_chunks.specs.Lanes.{takes}
 use Rattle.writer_files.specs.Stocks.{Stock, lane_of, files_of, taking_of}
 use Rattle.crash_law.specs.Accounts.{Account}
 use Rattle.crash_law.specs.Placed.{Placed, Base}
-use Rattle.crash_law.specs.Writers.{Start, StandsFor, Written, IsWholeIn}
+use Rattle.crash_law.specs.Writers.{WriterStart, StandsFor, Written, IsWholeIn}
 use Rattle.partition_writer.specs.Disk.{Disk}
 
 -- A writer as contracts see it.
@@ -115,7 +115,7 @@ pub record Beginning : Type 0 where
   pub first : ℕ
   pub first_chunk : ℕ
 
-abbrev pub start_of : Beginning → Start
+abbrev pub start_of : Beginning → WriterStart
 start_of b = record { found = b.found; maps = b.maps; first = b.first }
 
 -- The found files of the partition restart to the maps; the first number is above all numbers in them, and that of the

@@ -26,8 +26,8 @@ abbrev pub NamesOwn : Partition → Stock → Type 0
 NamesOwn partition stock = (class : Class) (chunk : Chunk) → (lane_of stock class).taking ≡ Some chunk → IsNamedFor partition class chunk
 
 -- no chunk that takes records is torn
-abbrev pub IsReady : Stock → Type 0
-IsReady stock = (class : Class) (chunk : Chunk) → (lane_of stock class).taking ≡ Some chunk → chunk.torn ≡ false
+abbrev pub IsUntorn : Stock → Type 0
+IsUntorn stock = (class : Class) (chunk : Chunk) → (lane_of stock class).taking ≡ Some chunk → chunk.torn ≡ false
 
 -- how many bytes are in the chunk that takes records
 abbrev pub size_of : Option Chunk → ℕ
@@ -50,7 +50,7 @@ number_after room number = if room then number else number + 1
 
 -- a piece of the record's bytes was appended to the file of this name, which was created where there was none; with all
 -- of them it keeps the limit of chunks, or was empty
-pub record Adds (old new : Files) (name : ChunkName) (bytes piece : List ℕ) : Type 0 where
+pub record AppendsTo (old new : Files) (name : ChunkName) (bytes piece : List ℕ) : Type 0 where
   pub room : fits (length (file_or_new (old name)).bytes) (length bytes) MAX_CHUNK_LIMIT ≡ true
   pub changes : ChangesAt old new name (Some (with_bytes (file_or_new (old name)) piece))
 
@@ -73,9 +73,9 @@ without_offset (Err refusal) = Err refusal
 -- A record was to be stored in the file of this name: where the disk refused it, some prefix of it stands there, or
 -- there is no file yet, or an empty one.
 abbrev pub StoresIn : Result (Unit {0}) FolderRefusal → Files → Files → ChunkName → List ℕ → Type 0
-StoresIn (Ok done) old new name bytes = Adds old new name bytes bytes
+StoresIn (Ok done) old new name bytes = AppendsTo old new name bytes bytes
 StoresIn (Err Fault) old new name bytes =
-    ((n : ℕ) × Adds old new name bytes (take n bytes)) ⊎ ((old name ≡ None) × (SameAt old new ⊎ AddsEmpty old new name))
+    ((n : ℕ) × AppendsTo old new name bytes (take n bytes)) ⊎ ((old name ≡ None) × (SameAt old new ⊎ AddsEmpty old new name))
 StoresIn (Err Memory) old new name bytes = SameAt old new ⊎ AddsEmpty old new name
 
 -- a chunk that takes records now is that of this name, or did so before

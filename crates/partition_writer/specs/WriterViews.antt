@@ -1,7 +1,7 @@
 -- A writer as contracts see it.
 use Rattle.dir_files.specs.declared.folder.Folder.{Ghosts as FolderGhosts}
 use Rattle.hr_base.specs.declared.name.Named.{Ghosts as NamedGhosts}
-use Rattle.writer_files.specs.StockViews.{port_of as files_port, stock}
+use Rattle.writer_files.specs.StockViews.{stock_port as files_port, stock}
 use Rattle.partition_writer.specs.declared.writer.Writer.{Writer}
 use Rattle.partition_writer.specs.Standing.{Standing}
 

@@ -8,6 +8,3 @@ mod writer;
 
 pub use refusal::WriteRefusal;
 pub use writer::Writer;
-
-#[cfg(test)]
-mod tests;

@@ -4,14 +4,14 @@ ghost use Rattle.std.specs.Prelude.{◌≡◌, ◌≢◌, ◌⊎◌, ◌+◌, �
 ghost use Rattle.hr_base.specs.declared.limits.TheConstants.{CHUNK_NO_END, MAX_CHUNK_LIMIT};
 ghost use Rattle.hr_base.specs.Names.{IsChunkName};
 ghost use Rattle.dir_files.specs.Faults.{is_fault};
-ghost use Rattle.dir_files.specs.PortCalls.{Counts};
+ghost use Rattle.dir_files.specs.PortCalls.{CountsCall};
 ghost use Rattle.value_chunk.specs.Chunks.{IsOneRecord};
 ghost use Rattle.writer_chunks.specs.Lanes.{chunks, takes};
 ghost use Rattle.writer_files.specs.Stocks.{lane_of, files_of};
 ghost use Rattle.writer_files.specs.StockCalls.{KeepsOthers};
-ghost use Rattle.writer_files.specs.StockViews.{port_of, stock};
+ghost use Rattle.writer_files.specs.StockViews.{stock_port, stock};
 ghost use Rattle.partition_writer.specs.Standing.{chosen, writer_kind};
-ghost use Rattle.partition_writer.specs.Storing.{Fills, IsBelow, IsOpen, IsReady, MakesRoom, NamesOwn, StoresIn, TakesIn, number_after, size_of, without_offset};
+ghost use Rattle.partition_writer.specs.Storing.{Fills, IsBelow, IsOpen, IsUntorn, MakesRoom, NamesOwn, StoresIn, TakesIn, number_after, size_of, without_offset};
 
 use dir_files::{Folder, FolderRefusal};
 use hr_base::{ChunkName, Class, Kind, MAX_CHUNK_LIMIT};
@@ -61,7 +61,7 @@ fn make_room<F: Folder>(
     requires kind { next.kind ≡ writer_kind class }
     requires numbered { next_chunk.old < CHUNK_NO_END ⊎ (takes (lane_of (stock files.old) class) len limit ≡ true) }
     requires limited { limit ≤ MAX_CHUNK_LIMIT }
-    requires ready { IsReady (stock files.old) }
+    requires ready { IsUntorn (stock files.old) }
     requires own { NamesOwn next.partition (stock files.old) }
     requires free { F.tells ≡ true → takes (lane_of (stock files.old) class) len limit ≡ false
         → files_of (stock files.old) next ≡ None }
@@ -80,11 +80,11 @@ fn make_room<F: Folder>(
         (chosen (stock files.old) class len limit next) }
     ensures open { F.tells ≡ true → IsOpen (stock files.old) (chosen (stock files.old) class len limit next) }
     ensures taking { TakesIn (stock files.old) (stock files.new) (chosen (stock files.old) class len limit next) }
-    ensures ready { IsReady (stock files.new) }
+    ensures ready { IsUntorn (stock files.new) }
     ensures own { NamesOwn next.partition (stock files.new) }
     ensures below { F.tells ≡ true → (result ≢ Err FolderRefusal.Fault) → (next.number.0 ≡ next_chunk.old)
         → IsBelow (files_of (stock files.old)) next_chunk.old → IsBelow (files_of (stock files.new)) next_chunk.new }
-    ensures counts { Counts ⟦<F as Folder>⟧ (is_fault result) (port_of files.old) (port_of files.new) }
+    ensures counts { CountsCall ⟦<F as Folder>⟧ (is_fault result) (stock_port files.old) (stock_port files.new) }
 {
     if !files.takes(class, len, limit) {
         files.begin(next)?;
@@ -117,7 +117,7 @@ pub(crate) fn store<F: Folder>(
     requires spelled { IsOneRecord class bytes.now }
     requires numbered { next_chunk.old < CHUNK_NO_END ⊎ (takes (lane_of (stock files.old) class) (length bytes.now) limit ≡ true) }
     requires limited { limit ≤ MAX_CHUNK_LIMIT }
-    requires ready { IsReady (stock files.old) }
+    requires ready { IsUntorn (stock files.old) }
     requires own { NamesOwn next.partition (stock files.old) }
     requires free { F.tells ≡ true → takes (lane_of (stock files.old) class) (length bytes.now) limit ≡ false
         → files_of (stock files.old) next ≡ None }
@@ -131,11 +131,11 @@ pub(crate) fn store<F: Folder>(
         (chosen (stock files.old) class (length bytes.now) limit next) bytes.now }
     ensures open { F.tells ≡ true → IsOpen (stock files.old) (chosen (stock files.old) class (length bytes.now) limit next) }
     ensures taking { TakesIn (stock files.old) (stock files.new) (chosen (stock files.old) class (length bytes.now) limit next) }
-    ensures ready { (result ≢ Err FolderRefusal.Fault) → IsReady (stock files.new) }
+    ensures ready { (result ≢ Err FolderRefusal.Fault) → IsUntorn (stock files.new) }
     ensures own { NamesOwn next.partition (stock files.new) }
     ensures below { F.tells ≡ true → (result ≢ Err FolderRefusal.Fault) → (next.number.0 ≡ next_chunk.old)
         → IsBelow (files_of (stock files.old)) next_chunk.old → IsBelow (files_of (stock files.new)) next_chunk.new }
-    ensures counts { Counts ⟦<F as Folder>⟧ (is_fault result) (port_of files.old) (port_of files.new) }
+    ensures counts { CountsCall ⟦<F as Folder>⟧ (is_fault result) (stock_port files.old) (stock_port files.new) }
 {
     make_room(files, next_chunk, next, class, bytes.len() as u64, limit)?;
     without_offset(files.append(class, bytes))

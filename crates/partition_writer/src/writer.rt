@@ -10,7 +10,7 @@ ghost use Rattle.writer_files.specs.Stocks.{files_of};
 ghost use Rattle.writer_files.specs.StockViews.{stock};
 ghost use Rattle.partition_writer.specs.Answers.{put_record, remove_record};
 ghost use Rattle.partition_writer.specs.Standing.{placed};
-ghost use Rattle.partition_writer.specs.Storing.{IsBelow, IsReady, NamesOwn};
+ghost use Rattle.partition_writer.specs.Storing.{IsBelow, IsUntorn, NamesOwn};
 
 use crate::noted::Noted;
 use crate::refusal::WriteRefusal;
@@ -22,7 +22,7 @@ use hr_base::{
     SEQ_END, Seq,
 };
 use ram_map::RamMap;
-use record_format::{Record, encode};
+use record_format::{Record, copied_together, encode};
 use std::alloc::Global;
 use writer_files::WriterFiles;
 
@@ -40,23 +40,27 @@ fn record_len(class: Class, key: usize, value: usize) -> u64
     header + key as u64 + value as u64
 }
 
-/// The record of a put, which shares the value.
+/// The record of a put, and its value once more. Both are of one block, to which key and value are copied.
 fn value_record(
     alloc: Global,
     next: u64,
     prefix: u64,
     key: &[u8],
-    value: &Bytes,
-) -> Result<Record, WriteRefusal>
-    ensures ok { IfOk result (λ rec. rec ≡ put_record next prefix key.now value.now) }
+    value: &[u8],
+) -> Result<(Record, Bytes), WriteRefusal>
+    ensures made { IfOk result (λ made. made.0 ≡ put_record next prefix key.now value.now) }
+    ensures shared { IfOk result (λ made. made.1 ≡ value.now) }
     ensures err { IfErr result (λ e. e ≡ WriteRefusal.Memory) }
 {
-    Ok(Record::Value {
+    let (key, value) = copied_together(alloc, key, value)?;
+    let shared = value.clone()?;
+    let rec = Record::Value {
         seq: Seq(next),
         prefix,
-        key: Bytes::copy_from_slice(alloc, key)?,
-        value: value.clone()?,
-    })
+        key,
+        value,
+    };
+    Ok((rec, shared))
 }
 
 /// The record of a removal.
@@ -114,7 +118,7 @@ pub struct Writer<F: Folder> {
     ghost chunk_numbered: { 1 ≤ next_chunk },
     ghost chunk_limited: { next_chunk ≤ CHUNK_NO_END },
     ghost own: { NamesOwn partition (stock files) },
-    ghost ready: { halted ≡ None → IsReady (stock files) },
+    ghost ready: { halted ≡ None → IsUntorn (stock files) },
     ghost below: { F.tells ≡ true → halted ≡ None → IsBelow (files_of (stock files)) next_chunk },
     ghost unlost: { halted ≡ None → lost ≡ false },
     pub ghost lengths: { KeepsLimits map.entries },
@@ -141,7 +145,7 @@ impl<F: Folder> Writer<F> {
     ghost use Rattle.crash_law.specs.Restarts.{RestartsAs};
     ghost use Rattle.partition_writer.specs.Disk.{HaltsAtFault};
     ghost use Rattle.partition_writer.specs.Standing.{Beginning, HoldsTail, IsBeginning, Stands, all_files, disk_of, limit_of, next_name, spent_by};
-    ghost use Rattle.partition_writer.specs.Answers.{KeepsRecords, Loses, StandsAfter, StandsSynced, SyncsAll, Writes, WritesRecord, clear_record, with_maps};
+    ghost use Rattle.partition_writer.specs.Answers.{KeepsNoted, Loses, StandsAfter, StandsSynced, SyncsAll, Writes, WritesRecord, clear_record, with_maps};
     ghost use Rattle.partition_writer.specs.WriterViews.{port_of, standing};
 
     /// A writer of the partition over a port of its own, which is a fresh fork. It goes on from these maps, with this
@@ -260,8 +264,7 @@ impl<F: Folder> Writer<F> {
             return Err(refused);
         }
         let own = self.map.reserve(prefix, key)?;
-        let shared = Bytes::copy_from_slice(self.alloc, value)?;
-        let rec = value_record(self.alloc, self.next, prefix, key, &shared)?;
+        let (rec, shared) = value_record(self.alloc, self.next, prefix, key, value)?;
         self.write(Class::Value, rec)?;
         Ok(self.map.set(prefix, own, shared))
     }

@@ -6,6 +6,3 @@ mod nested;
 mod sorted;
 
 pub use maps::RamMap;
-
-#[cfg(test)]
-mod tests;

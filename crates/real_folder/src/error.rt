@@ -7,6 +7,8 @@ use thiserror::Error;
 /// What was asked of the system.
 #[derive(Clone, Copy, Debug, PartialEq, Eq)]
 pub enum DiskCall {
+    /// To lock the folder against other programs.
+    Lock,
     /// To list a folder's files.
     List,
     /// To open a file that is there, or the folder.
@@ -26,6 +28,7 @@ pub enum DiskCall {
 impl Display for DiskCall {
     fn fmt<W: fmt::Write>(&self, f: &mut Formatter<W>) -> fmt::Result {
         f.write_str(match self {
+            DiskCall::Lock => "lock",
             DiskCall::List => "list",
             DiskCall::Open => "open",
             DiskCall::Create => "create",

@@ -13,7 +13,7 @@ pub(crate) struct Faults {
 }
 
 impl Faults {
-    ghost use Rattle.real_folder.specs.Disk.{Notes, first_of};
+    ghost use Rattle.real_folder.specs.Disk.{NotesFault, first_of};
 
     /// None so far.
     pub(crate) fn none() -> Faults
@@ -28,7 +28,7 @@ impl Faults {
 
     /// Counts a failure.
     pub(crate) fn note(&mut self, error: DiskError)
-        ensures { Notes true self.old self.new }
+        ensures { NotesFault true self.old self.new }
     {
         self.count = self.count.saturating_add(1);
         if self.first.is_none() {

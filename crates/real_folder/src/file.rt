@@ -3,6 +3,7 @@
 ghost use Rattle.std.specs.Prelude.{◌≡◌, Some};
 ghost use Rattle.hr_base.specs.Names.{IsChunkName};
 
+use crate::lock::Keep;
 use hr_base::{ChunkName, Named};
 
 /// When a file was there: at which port it was seen, and after how many of the port's directory syncs.
@@ -18,10 +19,13 @@ pub(crate) struct Opened<F> {
     pub(crate) file: F,
     /// Whether it can be appended to, and not only read.
     pub(crate) appends: bool,
+    /// Leave to stay open over file syncs, where it has that.
+    pub(crate) keep: Option<Keep>,
 }
 
-/// A handle of a file. It holds a descriptor from its first append to the next file sync, and from its first read to the
-/// next file sync or the file's end. At rest it holds none.
+/// A handle of a file. It holds a descriptor from its first read to the next file sync or the file's end, and from its
+/// first append to the next file sync, or longer: 64 handles of a folder keep theirs over file syncs. A handle that was
+/// only read, or whose last file sync was refused, holds none at rest.
 #[derive(Drop)]
 pub struct RealFile<F> {
     pub(crate) name: ChunkName,

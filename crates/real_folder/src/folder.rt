@@ -1,43 +1,50 @@
 //! A port of a folder on a disk.
 
-ghost use Rattle.std.specs.Prelude.{◌≡◌, ◌≤◌, ◌+◌, ◌-◌, ◌^◌, None, Some, true, false, All, IfOk, OnOk, MatchOption, is_none, length, min};
+ghost use Rattle.std.specs.Prelude.{◌≡◌, ◌≤◌, ◌+◌, ◌-◌, ◌^◌, None, Some, true, false, All, IfOk, IfSome, IsSome, OnErr, OnOk, MatchOption, is_none, is_ok, is_some, length, min};
 ghost use Rattle.std.specs.declared.io.ErrorKind.TheVariants.{OutOfMemory};
 ghost use Rattle.std.specs.IoError.{error_kind};
 ghost use Rattle.hr_base.specs.Names.{IsChunkName};
-ghost use Rattle.dir_files.specs.Faults.{is_disk, is_fault, is_remove_fault, CountsFault};
-ghost use Rattle.real_folder.specs.Disk.{Notes, first_of};
+ghost use Rattle.dir_files.specs.Faults.{is_disk, is_fault, is_remove_fault, kept_file, CountsFault};
+ghost use Rattle.real_folder.specs.Disk.{NotesFault, HoldsLock, first_of};
 
 use crate::error::{DiskCall, DiskError, Place};
 use crate::faults::Faults;
 use crate::file::{Opened, RealFile, Seen};
+use crate::lock::{LockFile, Locked, not_again, not_locked};
 use dir_files::{Folder, FolderRefusal, RemoveRefusal};
 use hr_base::{ChunkName, Memory, print_name, read_name};
-use std::alloc::AllocError;
+use std::alloc::{AllocError, Global};
 use std::fs::{self, OpenFile, OpenOptions};
 use std::io::{self, ErrorKind, Write};
 use std::os::unix::fs::FileExt;
 use std::rt::Files;
+use std::sync::Arc;
 
 /// The number of a port that was not forked.
 const ROOT: u64 = 0;
 
 /// A port of a folder on a disk. The folder is there before, and other files in it are left alone.
 ///
-/// The first error that the system gave is kept. A sync that the system refused is not tried again, at the handle or at
-/// the port: the system may have dropped what it did not write, and would answer the next sync without that. `names`
-/// gives the name of a folder that is named as a chunk file is, and the first read of it is a fault.
+/// One program at a time works on a folder. The first call of a root that touches the disk, or its first fork, takes the
+/// system's lock on the folder, without a file, and the lock lasts until the root and all its forks are dropped, or the
+/// program ends in any way. Where another program has it, the call is a fault, and so it is where the system knows no
+/// such lock; then the error has the system's words. A fork takes no lock of its own: one that was made while the
+/// folder could not be locked has a fault at each call that touches the disk.
+///
+/// The first error that the system gave is kept. A sync that the system refused is not tried again, of a file at its
+/// handle, of names at any port: the system may have dropped what it did not write, and would answer the next sync
+/// without that. `names` gives the name of a folder that is named as a chunk file is, and the first read of it is a fault.
 #[derive(Drop)]
-pub struct RealFolder<R> {
+pub struct RealFolder<R: Files> {
     rt: R,
     path: String,
+    lock: Option<Arc<Locked<R::File>>>,
     faults: Faults,
     /// The number of this port among the forks of the root, where it has one. Forks of forks have none.
     number: Option<u64>,
     forks: u64,
     /// How many directory syncs succeeded here.
     syncs: u64,
-    /// The system refused a directory sync, here or at a port that was adopted, so it may have dropped names.
-    sync_failed: bool,
 }
 
 /// Adds a chunk's file to the path of its folder.
@@ -54,7 +61,7 @@ fn path_of(folder: &String, name: ChunkName) -> Result<String, AllocError>
 
 impl<R: Files + Alloc + Clone + Drop> RealFolder<R>
 where
-    R::File: FileExt,
+    R::File: FileExt + LockFile,
 {
     /// The root port of the folder at this path. It touches no disk and takes no memory. A folder has one root at a
     /// time: `mark` tells its ports apart by their numbers.
@@ -65,11 +72,11 @@ where
         RealFolder {
             rt,
             path,
+            lock: None,
             faults: Faults::none(),
             number: Some(ROOT),
             forks: 0,
             syncs: 0,
-            sync_failed: false,
         }
     }
 
@@ -83,11 +90,12 @@ where
     }
 }
 
-impl<R> RealFolder<R> {
+impl<R: Files> RealFolder<R> {
     /// Counts a fault of the disk, and answers it.
     fn fault(&mut self, call: DiskCall, place: Place, said: io::Error) -> FolderRefusal
         ensures answer { result ≡ FolderRefusal.Fault }
-        ensures noted { Notes true self.old.faults self.new.faults }
+        ensures noted { NotesFault true self.old.faults self.new.faults }
+        ensures lock { self.new.lock ≡ self.old.lock }
     {
         self.faults.note(DiskError { call, place, said });
         FolderRefusal::Fault
@@ -96,7 +104,8 @@ impl<R> RealFolder<R> {
     /// Answers an error of the system: a fault, which counts, unless it had no memory.
     fn refuse(&mut self, call: DiskCall, place: Place, said: io::Error) -> FolderRefusal
         ensures memory { result ≡ FolderRefusal.Memory → error_kind said ≡ OutOfMemory }
-        ensures noted { Notes (is_disk result) self.old.faults self.new.faults }
+        ensures noted { NotesFault (is_disk result) self.old.faults self.new.faults }
+        ensures lock { self.new.lock ≡ self.old.lock }
     {
         if said.kind() == ErrorKind::OutOfMemory {
             FolderRefusal::Memory
@@ -107,7 +116,8 @@ impl<R> RealFolder<R> {
 
     /// The same, of the folder itself.
     fn refuse_folder(&mut self, call: DiskCall, said: io::Error) -> FolderRefusal
-        ensures { Notes (is_disk result) self.old.faults self.new.faults }
+        ensures noted { NotesFault (is_disk result) self.old.faults self.new.faults }
+        ensures lock { self.new.lock ≡ self.old.lock }
     {
         let path = self.path.clone().ok();
         self.refuse(call, Place::Folder(path), said)
@@ -116,7 +126,8 @@ impl<R> RealFolder<R> {
     /// Counts a directory sync that the system refused, and answers it.
     fn fault_of_sync(&mut self, said: io::Error) -> FolderRefusal
         ensures answer { result ≡ FolderRefusal.Fault }
-        ensures noted { Notes true self.old.faults self.new.faults }
+        ensures noted { NotesFault true self.old.faults self.new.faults }
+        ensures lock { self.new.lock ≡ self.old.lock }
     {
         let path = self.path.clone().ok();
         self.fault(DiskCall::Sync, Place::Folder(path), said)
@@ -124,7 +135,8 @@ impl<R> RealFolder<R> {
 
     /// A number for a fork, where it gets one.
     fn next_number(&mut self) -> Option<u64>
-        ensures { self.new.faults ≡ self.old.faults }
+        ensures faults { self.new.faults ≡ self.old.faults }
+        ensures lock { self.new.lock ≡ self.old.lock }
     {
         if self.number != Some(ROOT) || self.forks == u64::MAX {
             return None;
@@ -157,13 +169,15 @@ impl<R: Files> RealFolder<R> {
         how: &OpenOptions,
     ) -> Result<Opened<R::File>, FolderRefusal>
         requires { IsChunkName name }
-        ensures { Notes (is_fault result) self.old.faults self.new.faults }
+        ensures noted { NotesFault (is_fault result) self.old.faults self.new.faults }
+        ensures lock { self.new.lock ≡ self.old.lock }
     {
         let path = path_of(&self.path, name)?;
         match how.open(&self.rt, path.as_str()) {
             Ok(file) => Ok(Opened {
                 file,
                 appends: how.asks_append(),
+                keep: None,
             }),
             Err(said) => Err(self.refuse(call, place_of(name), said)),
         }
@@ -172,7 +186,8 @@ impl<R: Files> RealFolder<R> {
     /// Opens a chunk's file for reading.
     fn open_to_read(&mut self, name: ChunkName) -> Result<Opened<R::File>, FolderRefusal>
         requires { IsChunkName name }
-        ensures { Notes (is_fault result) self.old.faults self.new.faults }
+        ensures noted { NotesFault (is_fault result) self.old.faults self.new.faults }
+        ensures lock { self.new.lock ≡ self.old.lock }
     {
         let mut how = OpenOptions::new();
         self.open(DiskCall::Open, name, how.read(true))
@@ -181,7 +196,8 @@ impl<R: Files> RealFolder<R> {
     /// Opens a chunk's file for appending, and for reading.
     fn open_to_append(&mut self, name: ChunkName) -> Result<Opened<R::File>, FolderRefusal>
         requires { IsChunkName name }
-        ensures { Notes (is_fault result) self.old.faults self.new.faults }
+        ensures noted { NotesFault (is_fault result) self.old.faults self.new.faults }
+        ensures lock { self.new.lock ≡ self.old.lock }
     {
         let mut how = OpenOptions::new();
         self.open(DiskCall::Open, name, how.read(true).append(true))
@@ -190,12 +206,120 @@ impl<R: Files> RealFolder<R> {
     /// Makes a chunk's file that is not there, and opens it for appending, and for reading.
     fn open_new(&mut self, name: ChunkName) -> Result<Opened<R::File>, FolderRefusal>
         requires { IsChunkName name }
-        ensures { Notes (is_fault result) self.old.faults self.new.faults }
+        ensures noted { NotesFault (is_fault result) self.old.faults self.new.faults }
+        ensures lock { self.new.lock ≡ self.old.lock }
     {
         let mut how = OpenOptions::new();
         let how = how.read(true).append(true).create_new(true);
         self.open(DiskCall::Create, name, how)
     }
+}
+
+impl<R: Files> RealFolder<R>
+where
+    R::File: LockFile,
+{
+    /// Opens the folder and locks it, where this is a root. An error is not counted.
+    fn lock_folder(&mut self) -> Result<(), (DiskCall, io::Error)>
+        ensures faults { self.new.faults ≡ self.old.faults }
+        ensures locked { OnOk result (IsSome self.new.lock) }
+        ensures unlocked { OnErr result (self.new.lock ≡ self.old.lock) }
+    {
+        if self.number != Some(ROOT) {
+            return Err((DiskCall::Lock, not_locked()));
+        }
+        let folder = match fs::open(&self.rt, self.path.as_str()) {
+            Ok(folder) => folder,
+            Err(said) => return Err((DiskCall::Open, said)),
+        };
+        match share(*self.path.allocator(), folder) {
+            Ok(lock) => {
+                self.lock = Some(lock);
+                Ok(())
+            }
+            Err(said) => Err((DiskCall::Lock, said)),
+        }
+    }
+
+    /// Sees to it that the folder is locked, before a call touches the disk.
+    fn enter(&mut self) -> Result<(), FolderRefusal>
+        ensures noted { NotesFault (is_fault result) self.old.faults self.new.faults }
+        ensures lock { HoldsLock (is_ok result) self.old.lock self.new.lock }
+    {
+        if self.lock.is_some() {
+            return Ok(());
+        }
+        match self.lock_folder() {
+            Ok(()) => Ok(()),
+            Err((call, said)) => Err(self.refuse_folder(call, said)),
+        }
+    }
+
+    /// The lock for a fork. The folder is locked before, where that can be done.
+    fn lock_of_fork(&mut self) -> Result<Option<Arc<Locked<R::File>>>, AllocError>
+        ensures faults { self.new.faults ≡ self.old.faults }
+        ensures kept { IsSome self.old.lock → self.new.lock ≡ self.old.lock }
+        ensures same { IfOk result (λ lock. is_some lock ≡ is_some self.new.lock) }
+    {
+        if self.lock.is_none()
+            && let Err((_, said)) = self.lock_folder()
+            && said.kind() == ErrorKind::OutOfMemory
+        {
+            return Err(AllocError);
+        }
+        match &self.lock {
+            Some(lock) => Ok(Some(Arc::try_clone(lock)?)),
+            None => Ok(None),
+        }
+    }
+
+    /// Removes a chunk's file.
+    fn unlink(&mut self, name: ChunkName) -> Result<(), FolderRefusal>
+        requires { IsChunkName name }
+        ensures noted { NotesFault (is_fault result) self.old.faults self.new.faults }
+        ensures lock { HoldsLock (is_ok result) self.old.lock self.new.lock }
+    {
+        self.enter()?;
+        let path = path_of(&self.path, name)?;
+        match fs::remove_file(&self.rt, path.as_str()) {
+            Ok(()) => Ok(()),
+            Err(said) => Err(self.refuse(DiskCall::Remove, place_of(name), said)),
+        }
+    }
+
+    /// Makes the folder's names durable, where it is locked.
+    fn sync_folder(&self) -> io::Result<()> {
+        match &self.lock {
+            Some(lock) => lock.sync(),
+            None => Err(not_locked()),
+        }
+    }
+
+    /// What stays open of a file that was synced.
+    fn keep(&self, opened: Opened<R::File>) -> Option<Opened<R::File>> {
+        let Opened {
+            file,
+            appends,
+            keep,
+        } = opened;
+        if !appends {
+            return None;
+        }
+        let keep = match keep {
+            Some(keep) => keep,
+            None => self.lock.as_ref()?.keep()?,
+        };
+        Some(Opened {
+            file,
+            appends,
+            keep: Some(keep),
+        })
+    }
+}
+
+/// Locks an open folder, for a root and its forks.
+fn share<F: LockFile + Drop>(alloc: Global, folder: F) -> io::Result<Arc<Locked<F>>> {
+    Ok(Arc::new(alloc, Locked::take(alloc, folder)?)?)
 }
 
 /// Adds the name that a text spells, where that is a chunk's.
@@ -220,14 +344,9 @@ fn list<R: Files + Alloc + Clone + Drop>(rt: &R, path: &String) -> io::Result<Ve
     Ok(names)
 }
 
-/// What is said of a sync that is not tried again.
-fn not_again() -> io::Error {
-    io::Error::other("an earlier sync failed")
-}
-
 impl<R: Files + Alloc + Clone + Drop> Folder for RealFolder<R>
 where
-    R::File: FileExt,
+    R::File: FileExt + LockFile,
 {
     type File = RealFile<R::File>;
 
@@ -262,18 +381,21 @@ where
         ensures fresh_count { IfOk result (λ fork. fork.faults.count ≡ 0) }
         ensures fresh_first { IfOk result (λ fork. fork.faults.first ≡ None) }
         ensures same { self.new.faults ≡ self.old.faults }
+        ensures locked { IfOk result (λ fork. is_some fork.lock ≡ is_some self.new.lock) }
+        ensures lock { IsSome self.old.lock → self.new.lock ≡ self.old.lock }
     {
         let rt = self.rt.clone()?;
         let path = self.path.clone()?;
+        let lock = self.lock_of_fork()?;
         let number = self.next_number();
         Ok(RealFolder {
             rt,
             path,
+            lock,
             faults: Faults::none(),
             number,
             forks: 0,
             syncs: 0,
-            sync_failed: false,
         })
     }
 
@@ -281,24 +403,26 @@ where
         ensures added { self.new.faults.count ≡ min (self.old.faults.count + other.faults.count) (2 ^ 64 - 1) }
         ensures kept { self.old.faults.count ≤ self.new.faults.count }
         ensures first { self.new.faults.first ≡ first_of self.old.faults.first other.faults.first }
+        ensures lock { self.new.lock ≡ self.old.lock }
     {
         let RealFolder {
             rt: _,
             path: _,
+            lock: _,
             faults,
             number: _,
             forks: _,
             syncs: _,
-            sync_failed,
         } = other;
-        self.sync_failed = self.sync_failed || sync_failed;
         self.faults.adopt(faults);
     }
 
     fn names(&mut self) -> Result<Vec<ChunkName>, FolderRefusal>
         ensures valid { IfOk result (λ names. All IsChunkName names.items) }
-        ensures noted { Notes (is_fault result) self.old.faults self.new.faults }
+        ensures noted { NotesFault (is_fault result) self.old.faults self.new.faults }
+        ensures lock { HoldsLock (is_ok result) self.old.lock self.new.lock }
     {
+        self.enter()?;
         match list(&self.rt, &self.path) {
             Ok(names) => Ok(names),
             Err(said) => Err(self.refuse_folder(DiskCall::List, said)),
@@ -309,7 +433,7 @@ where
     fn take(&mut self, name: ChunkName) -> Result<RealFile<R::File>, FolderRefusal>
         requires { IsChunkName name }
         ensures name { IfOk result (λ file. file.name ≡ name) }
-        ensures noted { Notes (is_fault result) self.old.faults self.new.faults }
+        ensures noted { NotesFault (is_fault result) self.old.faults self.new.faults }
     {
         Ok(RealFile::new(name, self.seen_now(), None))
     }
@@ -317,8 +441,10 @@ where
     fn create(&mut self, name: ChunkName) -> Result<RealFile<R::File>, FolderRefusal>
         requires { IsChunkName name }
         ensures name { IfOk result (λ file. file.name ≡ name) }
-        ensures noted { Notes (is_fault result) self.old.faults self.new.faults }
+        ensures noted { NotesFault (is_fault result) self.old.faults self.new.faults }
+        ensures lock { HoldsLock (is_ok result) self.old.lock self.new.lock }
     {
+        self.enter()?;
         let opened = self.open_new(name)?;
         Ok(RealFile::new(name, self.seen_now(), Some(opened)))
     }
@@ -327,8 +453,10 @@ where
     /// be written.
     fn append(&mut self, file: &mut RealFile<R::File>, piece: &[u8]) -> Result<(), FolderRefusal>
         ensures name { file.new.name ≡ file.old.name }
-        ensures noted { Notes (is_fault result) self.old.faults self.new.faults }
+        ensures noted { NotesFault (is_fault result) self.old.faults self.new.faults }
+        ensures lock { HoldsLock (is_ok result) self.old.lock self.new.lock }
     {
+        self.enter()?;
         let mut opened = match file.opened.take() {
             Some(opened) if opened.appends => opened,
             _ => self.open_to_append(file.name)?,
@@ -341,19 +469,27 @@ where
         }
     }
 
+    /// Closes the file where the sync was refused, where the file was only read, and where as many descriptors are kept as
+    /// the folder keeps.
     fn sync_file(&mut self, file: &mut RealFile<R::File>) -> Result<(), FolderRefusal>
         ensures name { file.new.name ≡ file.old.name }
-        ensures noted { Notes (is_fault result) self.old.faults self.new.faults }
+        ensures noted { NotesFault (is_fault result) self.old.faults self.new.faults }
+        ensures lock { HoldsLock (is_ok result) self.old.lock self.new.lock }
     {
-        let opened = match file.opened.take() {
-            Some(opened) => opened,
-            None => self.open_to_read(file.name)?,
-        };
+        self.enter()?;
+        let opened = file.opened.take();
         if file.sync_failed {
             return Err(self.fault(DiskCall::Sync, place_of(file.name), not_again()));
         }
+        let opened = match opened {
+            Some(opened) => opened,
+            None => self.open_to_read(file.name)?,
+        };
         match opened.file.sync_data() {
-            Ok(()) => Ok(()),
+            Ok(()) => {
+                file.opened = self.keep(opened);
+                Ok(())
+            }
             Err(said) => {
                 file.sync_failed = true;
                 Err(self.fault(DiskCall::Sync, place_of(file.name), said))
@@ -362,24 +498,16 @@ where
     }
 
     fn sync_names(&mut self) -> Result<(), FolderRefusal>
-        ensures noted { Notes (is_fault result) self.old.faults self.new.faults }
+        ensures noted { NotesFault (is_fault result) self.old.faults self.new.faults }
+        ensures lock { HoldsLock (is_ok result) self.old.lock self.new.lock }
     {
-        if self.sync_failed {
-            return Err(self.fault_of_sync(not_again()));
-        }
-        let folder = match fs::open(&self.rt, self.path.as_str()) {
-            Ok(folder) => folder,
-            Err(said) => return Err(self.refuse_folder(DiskCall::Open, said)),
-        };
-        match folder.sync_all() {
+        self.enter()?;
+        match self.sync_folder() {
             Ok(()) => {
                 self.syncs = self.syncs.saturating_add(1);
                 Ok(())
             }
-            Err(said) => {
-                self.sync_failed = true;
-                Err(self.fault_of_sync(said))
-            }
+            Err(said) => Err(self.fault_of_sync(said)),
         }
     }
 
@@ -405,8 +533,10 @@ where
     ) -> Result<usize, FolderRefusal>
         ensures bound { IfOk result (λ count. count ≤ length into.new) }
         ensures name { file.new.name ≡ file.old.name }
-        ensures noted { Notes (is_fault result) self.old.faults self.new.faults }
+        ensures noted { NotesFault (is_fault result) self.old.faults self.new.faults }
+        ensures lock { HoldsLock (is_ok result) self.old.lock self.new.lock }
     {
+        self.enter()?;
         let opened = match file.opened.take() {
             Some(opened) => opened,
             None => self.open_to_read(file.name)?,
@@ -422,17 +552,14 @@ where
     }
 
     fn remove(&mut self, file: RealFile<R::File>) -> Result<(), RemoveRefusal<RealFile<R::File>>>
-        ensures noted { Notes (is_remove_fault result) self.old.faults self.new.faults }
+        ensures kept { IfSome (kept_file result) (λ kept. kept.name ≡ file.name) }
+        ensures noted { NotesFault (is_remove_fault result) self.old.faults self.new.faults }
+        ensures lock { HoldsLock (is_ok result) self.old.lock self.new.lock }
     {
-        let Ok(path) = path_of(&self.path, file.name) else {
-            return Err(RemoveRefusal::Memory(file));
-        };
-        match fs::remove_file(&self.rt, path.as_str()) {
+        match self.unlink(file.name) {
             Ok(()) => Ok(()),
-            Err(said) => match self.refuse(DiskCall::Remove, place_of(file.name), said) {
-                FolderRefusal::Memory => Err(RemoveRefusal::Memory(file)),
-                FolderRefusal::Fault => Err(RemoveRefusal::Fault),
-            },
+            Err(FolderRefusal::Memory) => Err(RemoveRefusal::Memory(file)),
+            Err(FolderRefusal::Fault) => Err(RemoveRefusal::Fault),
         }
     }
 
@@ -442,6 +569,3 @@ where
         drop(file);
     }
 }
-
-#[cfg(test)]
-mod tests;

@@ -6,7 +6,9 @@ mod error;
 mod faults;
 mod file;
 mod folder;
+mod lock;
 
 pub use error::{DiskCall, DiskError};
 pub use file::RealFile;
 pub use folder::RealFolder;
+pub use lock::LockFile;

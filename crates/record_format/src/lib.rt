@@ -1,13 +1,13 @@
 //! Records as bytes.
 #![tactic(auto)]
 
+mod copies;
 mod header;
 mod laws;
 mod reading;
 mod record;
-#[cfg(test)]
-mod tests;
 
+pub use copies::copied_together;
 pub use laws::{
     a_prefix_splits, a_step_stays, damaged_bytes_spell_none, first_record_splits_off,
     no_spelling_begins_another, one_split, one_step, records_are_read_in_turn, some_split,

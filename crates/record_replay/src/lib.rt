@@ -8,6 +8,3 @@ mod replaying;
 
 pub use found::{Found, FoundRecords};
 pub use replaying::{ReplayRefusal, Replayed, replay};
-
-#[cfg(test)]
-mod tests;

@@ -15,15 +15,13 @@ use Rattle.dir_files.specs.Files.{FileState, IsDurable, KeepsMore, Rises}
 use Rattle.dir_files.specs.Images.{KeepsFront, KeepsImages, MayLeave, read_of}
 use Rattle.dir_files.specs.Ports.{IsListing, Port, SamePort, either_file}
 use Rattle.dir_files.specs.PortStates.{IsAtRest, IsGivenBack}
+use Rattle.dir_files.proofs.JoinLaws.{no_some}
 use Rattle.restart_load.specs.Contents.{AreFilesOf, FileBytes, InNameOrder}
 use Rattle.restart_load.specs.Reading.{IsFirstLarge, IsFolderRefusal, IsLarge, StandsLargeAt}
 use Rattle.restart_load.specs.Refusals.{IsFirstName, IsTooLarge}
-use Rattle.restart_load.specs.Taking.{AllDurableWith, AreApart, HasTaken, TakenFile, bytes_of, in_hand}
+use Rattle.restart_load.specs.Taking.{AllDurableWith, AreApart, HasTaken, TakenFile, read_bytes, in_hand}
 use Rattle.restart_load.specs.declared.refusal.RestartRefusal.{RestartRefusal}
 use Rattle.restart_load.specs.declared.refusal.RestartRefusal.TheVariants.{Memory, DiskFault, Partition, TooLarge, Damaged, Clash}
-
-none_some : {A : Type 0} (o : Option A) (x : A) → o ≡ None → o ≡ Some x → ⊥
-none_some o x none some = cc
 
 one_some : {A : Type 0} {x y : A} → Some x ≡ Some y → x ≡ y
 one_some e = cc
@@ -113,7 +111,7 @@ itself (a ∷ files) zero d apart below = in_hand_here a files
 itself (a ∷ files) (suc k) d apart below =
     let t : TakenFile = get_or files k d in
     let there : in_hand files t.name ≡ Some t.file = itself files k d apart.1 (omega (arith, below)) in
-    in_hand_past a files t.name (is_name-other t.name a.name (λ same. none_some (in_hand files a.name) t.file apart.0 (ap (in_hand files) (sym same) ∙ there))) ∙ there
+    in_hand_past a files t.name (is_name-other t.name a.name (λ same. no_some (in_hand files a.name) t.file apart.0 (ap (in_hand files) (sym same) ∙ there))) ∙ there
 
 bytes_from : (old : Option FileState) (file : FileState) → Rises old (Some file) → option_map (λ (f : FileState). f.bytes) old ≡ Some file.bytes
 bytes_from None file rises = cc
@@ -123,7 +121,7 @@ held_from : (old : Option FileState) (bytes : List ℕ) → option_map (λ (f : 
 held_from None bytes is = cc
 held_from (Some f) bytes is = refl
 
-same_bytes : (t : TakenFile) (name : ChunkName) (bytes : List ℕ) → t.name ≡ name → t.file.bytes ≡ bytes → bytes_of t ≡ record { name = name; bytes = bytes }
+same_bytes : (t : TakenFile) (name : ChunkName) (bytes : List ℕ) → t.name ≡ name → t.file.bytes ≡ bytes → read_bytes t ≡ record { name = name; bytes = bytes }
 same_bytes t name bytes is has = ap (λ (n : ChunkName). let one : FileBytes = record { name = n; bytes = t.file.bytes } in one) is ∙ ap (λ (b : List ℕ). let one : FileBytes = record { name = name; bytes = b } in one) has
 
 default : FileBytes
@@ -148,22 +146,22 @@ module _ (start now : Port) (names : List ChunkName) (files : List TakenFile) (l
       let here = λ (d : TakenFile). sym (get_or-map (λ (t : TakenFile). t.name) files found.0 d name below) ∙ found.2 in
       (found.0, below, here, λ d. one_some (sym (read_at found.0 d below) ∙ ap (read_of start) (here d) ∙ is))
 
-  read_all : (k : ℕ) (d : FileBytes) → k < length (map bytes_of files) → read_of start (get_or (map bytes_of files) k d).name ≡ Some (get_or (map bytes_of files) k d).bytes
+  read_all : (k : ℕ) (d : FileBytes) → k < length (map read_bytes files) → read_of start (get_or (map read_bytes files) k d).name ≡ Some (get_or (map read_bytes files) k d).bytes
   read_all k d below =
-      let within : k < length files = omega (arith, below, length-map files bytes_of) in
+      let within : k < length files = omega (arith, below, length-map files read_bytes) in
       let e : TakenFile = record { name = d.name; file = record { bytes = d.bytes; front = 0; named = false } } in
-      subst (λ (one : FileBytes). read_of start one.name ≡ Some one.bytes) (sym (get_or-map bytes_of files k e d within)) (read_at k e within)
+      subst (λ (one : FileBytes). read_of start one.name ≡ Some one.bytes) (sym (get_or-map read_bytes files k e d within)) (read_at k e within)
 
-  pub files_read : AreFilesOf (read_of start) (map bytes_of files)
+  pub files_read : AreFilesOf (read_of start) (map read_bytes files)
   files_read = record {
-    each = All-from_get_or (λ (one : FileBytes). read_of start one.name ≡ Some one.bytes) (map bytes_of files) default (λ k below. read_all k default below);
+    each = All-from_get_or (λ (one : FileBytes). read_of start one.name ≡ Some one.bytes) (map read_bytes files) default (λ k below. read_all k default below);
     all = λ name bytes is.
         let place = place_of name bytes is in
         let one : FileBytes = record { name = name; bytes = bytes } in
         let d : TakenFile = record { name = name; file = record { bytes = bytes; front = 0; named = false } } in
-        let at : get_or (map bytes_of files) place.0 one ≡ one =
-        get_or-map bytes_of files place.0 d one place.1 ∙ same_bytes (get_or files place.0 d) name bytes (place.2 d) (place.3 d) in
-        subst (Contains (map bytes_of files)) at (Contains-get_or (map bytes_of files) place.0 one (omega (arith, place.1, length-map files bytes_of)));
+        let at : get_or (map read_bytes files) place.0 one ≡ one =
+        get_or-map read_bytes files place.0 d one place.1 ∙ same_bytes (get_or files place.0 d) name bytes (place.2 d) (place.3 d) in
+        subst (Contains (map read_bytes files)) at (Contains-get_or (map read_bytes files) place.0 one (omega (arith, place.1, length-map files read_bytes)));
   }
 
   later : (i j : ℕ) → (j < i) ⊎ ((i ≡ j) ⊎ (i < j))
@@ -238,13 +236,13 @@ first_large_same tells old new (Clash p seq) names same is = is
 first_large_same tells old new (TooLarge name) names same is =
     (subst (λ (list : List ChunkName). Contains list name) (sym names) is.0, λ told. subst (λ (files : List TakenFile). StandsLargeAt files name) (sym (same told)) (is.1 told))
 
-names_of_bytes : (files : List TakenFile) → map (λ (f : FileBytes). f.name) (map bytes_of files) ≡ map (λ (t : TakenFile). t.name) files
+names_of_bytes : (files : List TakenFile) → map (λ (f : FileBytes). f.name) (map read_bytes files) ≡ map (λ (t : TakenFile). t.name) files
 names_of_bytes [] = refl
 names_of_bytes (t ∷ files) = ap (λ (names : List ChunkName). t.name ∷ names) (names_of_bytes files)
 
 -- what was read is all of the folder's files
 pub all_read : {A E : Type 0} (items : A → List FileBytes) (result : Result A E) (start now : Port) (names : List ChunkName) (files : List TakenFile) → IsListing start names → HasTaken start now files
-    → IfOk result (λ x. items x ≡ map bytes_of files) → IfOk result (λ x. map (λ (f : FileBytes). f.name) (items x) ≡ names) → IfOk result (λ x. AreFilesOf (read_of start) (items x))
+    → IfOk result (λ x. items x ≡ map read_bytes files) → IfOk result (λ x. map (λ (f : FileBytes). f.name) (items x) ≡ names) → IfOk result (λ x. AreFilesOf (read_of start) (items x))
 all_read items (Ok x) start now names files listing has read named =
     subst (AreFilesOf (read_of start)) (sym read)
     (files_read start now names files listing has (sym (names_of_bytes files) ∙ ap (map (λ (f : FileBytes). f.name)) (sym read) ∙ named))

@@ -10,7 +10,7 @@ use Rattle.hr_base.proofs.NameTestLaws.{is_name-same, is_name-true}
 use Rattle.dir_files.specs.Files.{FileState, IsDurable, Rises}
 use Rattle.dir_files.specs.Ports.{IsListing, Port, either_file}
 use Rattle.dir_files.specs.PortStates.{IsGivenBack}
-use Rattle.writer_chunks.proofs.FileLaws.{rises_same}
+use Rattle.dir_files.proofs.JoinLaws.{rises_same}
 use Rattle.restart_load.specs.Taking.{AllDurableWith, AllNamed, HasTaken, TakenFile, files_with, in_hand}
 
 some_of : (o : Option FileState) → is_some o ≡ true → (file : FileState) × (o ≡ Some file)

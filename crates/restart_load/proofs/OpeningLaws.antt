@@ -10,12 +10,13 @@ use Rattle.dir_files.specs.declared.folder.Folder.{Ghosts as FolderGhosts}
 use Rattle.dir_files.specs.Files.{FileState, Files}
 use Rattle.dir_files.specs.Ports.{CanJoin, Joins, Port, SamePort, either_file}
 use Rattle.dir_files.specs.PortStates.{IsGivenBack}
+use Rattle.dir_files.proofs.JoinLaws.{either_same, given_back_joined, given_back_same}
 use Rattle.partition_writer.specs.declared.writer.Writer.{Writer}
 use Rattle.partition_writer.specs.Standing.{Standing}
 use Rattle.partition_writer.specs.WriterViews.{standing}
 use Rattle.record_replay.specs.declared.play.Replayed.{Replayed}
 use Rattle.restart_load.specs.Opening.{AreOpened, HasNoFile, IsOpened}
-use Rattle.restart_load.specs.Taking.{IsKept}
+use Rattle.restart_load.specs.Taking.{IsPortKept}
 use Rattle.restart_load.specs.Writers.{EachIs, standings}
 
 -- ---- lists
@@ -79,89 +80,19 @@ module _ {F File : Type 0} {g : FolderGhosts F File} {h : NamedGhosts File} wher
   pub length_standings : (writers : List (Writer F File g h)) → length (standings writers) ≡ length writers
   length_standings writers = length-map writers (λ (one : Writer F File g h). standing one)
 
--- ---- ports
-
-pub no_some : {A : Type 0} (o : Option A) (x : A) → o ≡ None → o ≡ Some x → ⊥
-no_some o x none some = cc
-
-either_none : (own other : Option FileState) → own ≡ None → either_file own other ≡ other
-either_none None other none = refl
-either_none (Some file) other none = cc
-
-either_same : (own other : Option FileState) → other ≡ None → either_file own other ≡ own
-either_same None other none = none
-either_same (Some file) other none = refl
-
-pub same_after : (a b c : Port) → SamePort a b → SamePort b c → SamePort a c
-same_after a b c first second = record {
-  held = λ n. second.held n ∙ first.held n;
-  gone = λ n. second.gone n ∙ first.gone n;
-  lent = λ n. second.lent n ∙ first.lent n;
-  foreign = λ n. second.foreign n ∙ first.foreign n;
-  created = λ n. second.created n ∙ first.created n;
-  fixed = λ n. second.fixed n ∙ first.fixed n;
-}
-
-pub given_back_same : (old new : Port) → SamePort old new → IsGivenBack old → IsGivenBack new
-given_back_same old new same given = record {
-  calm = record { lent = λ n. same.lent n ∙ given.calm.lent n; foreign = λ n. same.foreign n ∙ given.calm.foreign n };
-  gone = λ n. same.gone n ∙ given.gone n;
-}
-
-found_of : (held removed : Option FileState) → removed ≡ None → (is_some held || is_some removed) ≡ true → (file : FileState) × (held ≡ Some file)
-found_of (Some file) removed none is = (file, refl)
-found_of None None none is = cc
-found_of None (Some file) none is = cc
-
-absent_of : (held removed : Option FileState) → removed ≡ None → ((file : FileState) → held ≡ Some file → ⊥) → (is_some held || is_some removed) ≡ false
-absent_of (Some file) removed none never = absurd (never file refl)
-absent_of None None none never = refl
-absent_of None (Some file) none never = cc
-
-not_both : (b : Bool) → b ≡ false → b ≡ true → ⊥
-not_both b f t = cc
-
--- two ports at which nothing is out can be joined, where no file of the one is at the other
-pub can_join : (a b : Port) (files : Files) → IsGivenBack a → IsGivenBack b → ((name : ChunkName) → b.held name ≡ files name)
-    → ((name : ChunkName) (file : FileState) → files name ≡ Some file → a.held name ≡ None) → CanJoin a b
-can_join a b files given given' held apart = record {
-  apart = λ n there.
-      let found = found_of (a.held n) (a.gone n) (given.gone n) there in
-      absent_of (b.held n) (b.gone n) (given'.gone n) (λ file is. no_some (a.held n) found.0 (apart n file (sym (held n) ∙ is)) found.1);
-  lent_apart = λ n out. absurd (not_both (a.lent n) (given.calm.lent n) out);
-  foreign_apart = λ n out. absurd (not_both (a.foreign n) (given.calm.foreign n) out);
-  lent_here = λ n out there. absurd (not_both (a.lent n) (given.calm.lent n) out);
-  lent_there = λ n out there. absurd (not_both (b.lent n) (given'.calm.lent n) out);
-}
-
-neither : (a b x y : Bool) → a ≡ false → b ≡ false → ((a && x) || (b && y)) ≡ false
-neither false false x y e f = refl
-neither false true x y e f = cc
-neither true b x y e f = cc
-
--- and nothing is out afterwards
-pub given_back_joined : (a b new : Port) → IsGivenBack a → IsGivenBack b → Joins a b new → IsGivenBack new
-given_back_joined a b new given given' joins = record {
-  calm = record {
-    lent = λ n. joins.lent n ∙ neither (a.lent n) (b.lent n) (not (b.foreign n)) (not (a.foreign n)) (given.calm.lent n) (given'.calm.lent n);
-    foreign = λ n. joins.foreign n ∙ neither (a.foreign n) (b.foreign n) (not (b.lent n)) (not (a.lent n)) (given.calm.foreign n) (given'.calm.foreign n);
-  };
-  gone = λ n. joins.gone n ∙ either_none (a.gone n) (b.gone n) (given.gone n) ∙ given'.gone n;
-}
-
 -- ---- the port keeps its files
 
-pub kept_itself : (port : Port) → IsGivenBack port → IsKept port port
+pub kept_itself : (port : Port) → IsGivenBack port → IsPortKept port port
 kept_itself port given = record { given_back = given; held = λ n. refl }
 
-pub kept_after : (a b c : Port) → IsKept a b → IsKept b c → IsKept a c
+pub kept_after : (a b c : Port) → IsPortKept a b → IsPortKept b c → IsPortKept a c
 kept_after a b c first second = record { given_back = second.given_back; held = λ n. second.held n ∙ first.held n }
 
-pub kept_same : (old new : Port) → SamePort old new → IsGivenBack old → IsKept old new
+pub kept_same : (old new : Port) → SamePort old new → IsGivenBack old → IsPortKept old new
 kept_same old new same given = record { given_back = given_back_same old new same given; held = same.held }
 
 -- the port that joined it had no file
-pub kept_joined : (a b new : Port) → IsGivenBack a → IsGivenBack b → ((name : ChunkName) → b.held name ≡ None) → Joins a b new → IsKept a new
+pub kept_joined : (a b new : Port) → IsGivenBack a → IsGivenBack b → ((name : ChunkName) → b.held name ≡ None) → Joins a b new → IsPortKept a new
 kept_joined a b new given given' none joins = record {
   given_back = given_back_joined a b new given given' joins;
   held = λ n. joins.held n ∙ either_same (a.held n) (b.held n) (none n);

@@ -6,7 +6,7 @@ use Rattle.hr_base.specs.declared.limits.TheConstants.{MAX_FILE_LEN}
 use Rattle.hr_base.specs.declared.name.ChunkName.{ChunkName}
 use Rattle.restart_load.specs.Contents.{FileBytes}
 use Rattle.restart_load.specs.Reading.{IsFirstLarge, IsLarge, IsReadRefusal}
-use Rattle.restart_load.specs.Taking.{TakenFile, bytes_of}
+use Rattle.restart_load.specs.Taking.{TakenFile, read_bytes}
 use Rattle.restart_load.specs.declared.refusal.RestartRefusal.{RestartRefusal}
 use Rattle.restart_load.specs.declared.refusal.RestartRefusal.TheVariants.{Memory, DiskFault, Partition, TooLarge, Damaged, Clash}
 
@@ -27,11 +27,11 @@ pub files_set : (files : List TakenFile) (i : ℕ) (d new : TakenFile) → new �
 files_set files i d new same = ap (λ (t : TakenFile). set files i t) same ∙ set-get_or files i d
 
 -- one more was read
-pub bytes_more : (files now : List TakenFile) (i : ℕ) (d : TakenFile) (old new : List FileBytes) (one : FileBytes) → i < length files → now ≡ files → one ≡ bytes_of (get_or now i d)
-    → new ≡ old ++ one ∷ [] → old ≡ map bytes_of (take i files) → new ≡ map bytes_of (take (i + 1) files)
+pub bytes_more : (files now : List TakenFile) (i : ℕ) (d : TakenFile) (old new : List FileBytes) (one : FileBytes) → i < length files → now ≡ files → one ≡ read_bytes (get_or now i d)
+    → new ≡ old ++ one ∷ [] → old ≡ map read_bytes (take i files) → new ≡ map read_bytes (take (i + 1) files)
 bytes_more files now i d old new one below same is more read =
-    more ∙ ap (λ (x : FileBytes). old ++ x ∷ []) (is ∙ ap (λ (list : List TakenFile). bytes_of (get_or list i d)) same)
-    ∙ ap (λ (front : List FileBytes). front ++ bytes_of (get_or files i d) ∷ []) read ∙ sym (map_more bytes_of files i d below)
+    more ∙ ap (λ (x : FileBytes). old ++ x ∷ []) (is ∙ ap (λ (list : List TakenFile). read_bytes (get_or list i d)) same)
+    ∙ ap (λ (front : List FileBytes). front ++ read_bytes (get_or files i d) ∷ []) read ∙ sym (map_more read_bytes files i d below)
 
 one_name : (files now : List TakenFile) (i : ℕ) (d : TakenFile) → i < length files → i < length now → map (λ (t : TakenFile). t.name) now ≡ map (λ (t : TakenFile). t.name) files → (get_or now i d).name ≡ (get_or files i d).name
 one_name files now i d below within same =
@@ -47,7 +47,7 @@ read_names_more files now i d old new one below same is more read =
     ∙ ap (λ (n : ChunkName). map (λ (t : TakenFile). t.name) (take i files) ++ n ∷ []) (is ∙ one_name files now i d below within same)
     ∙ sym (map_more (λ (t : TakenFile). t.name) files i d below)
 
-pub not_large : (files now : List TakenFile) (i : ℕ) (d : TakenFile) (one : FileBytes) → now ≡ files → one ≡ bytes_of (get_or now i d) → length one.bytes ≤ MAX_FILE_LEN
+pub not_large : (files now : List TakenFile) (i : ℕ) (d : TakenFile) (one : FileBytes) → now ≡ files → one ≡ read_bytes (get_or now i d) → length one.bytes ≤ MAX_FILE_LEN
     → ¬ IsLarge (get_or files i d)
 not_large files now i d one same is small large =
     let e : length one.bytes ≡ length (get_or files i d).file.bytes = ap (λ (x : FileBytes). length x.bytes) is ∙ ap (λ (list : List TakenFile). length (get_or list i d).file.bytes) same in

@@ -25,7 +25,7 @@ use Rattle.restart_load.specs.Loading.{IsReplayOf}
 use Rattle.restart_load.specs.Numbers.{IsNextAmong, IsWriterName, is_writer_kind}
 use Rattle.restart_load.specs.Opening.{AreOpened, CanOpenAll, IsOpened}
 use Rattle.restart_load.specs.Refusals.{IsFirstName, IsRefusedFor, IsStray, NoneStray}
-use Rattle.restart_load.specs.Taking.{IsKept}
+use Rattle.restart_load.specs.Taking.{IsPortKept}
 use Rattle.restart_load.specs.Writers.{AreResumed, IsNextChunk, IsWriterChunk, beginning_of}
 use Rattle.restart_load.specs.declared.refusal.RestartRefusal.{RestartRefusal}
 use Rattle.restart_load.proofs.LoadLaws.{IsSmallFile, agree_of_parts, loaded_sound, part_sound, replayed_base, replayed_next}
@@ -215,13 +215,13 @@ may_kept : (old new gone gone' : Option FileState) (image : Option (List ℕ)) �
 may_kept old new gone gone' image same none none' may =
     subst (λ (o : Option FileState). MayLeave o gone image) same (subst (λ (o : Option FileState). MayLeave new o image) (none' ∙ sym none) may)
 
-pub images_kept : (old new : Port) → IsGivenBack old → IsKept old new → KeepsImages old new
+pub images_kept : (old new : Port) → IsGivenBack old → IsPortKept old new → KeepsImages old new
 images_kept old new given kept = record {
   read = λ name. ap (option_map (λ (f : FileState). f.bytes)) (kept.held name);
   images = λ image is name. may_kept (old.held name) (new.held name) (old.gone name) (new.gone name) (image name) (kept.held name) (given.gone name) (kept.given_back.gone name) (is name);
 }
 
-pub rest_kept : (old new : Port) → IsKept old new → IsAtRest old → IsAtRest new
+pub rest_kept : (old new : Port) → IsPortKept old new → IsAtRest old → IsAtRest new
 rest_kept old new kept rest = record {
   given_back = kept.given_back;
   named = λ name file held. rest.named name file (sym (kept.held name) ∙ held);

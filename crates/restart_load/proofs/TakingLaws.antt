@@ -6,17 +6,10 @@ use Rattle.hr_base.specs.NameTests.{is_name}
 use Rattle.hr_base.proofs.NameTestLaws.{is_name-other, is_name-same, same_name_or_not}
 use Rattle.dir_files.specs.Files.{FileState, IsDurable, IsFile, Rises, synced_file}
 use Rattle.dir_files.specs.Ports.{Gives, Port, SamePort, Takes, either_file}
+use Rattle.dir_files.proofs.JoinLaws.{either_alone, either_none}
 use Rattle.restart_load.specs.Taking.{AllDurableWith, AllNamed, AreApart, HasTaken, TakenFile, files_with, in_hand}
 
 -- ---- look-ups
-
-either_none : (own other : Option FileState) → own ≡ None → either_file own other ≡ other
-either_none None other none = refl
-either_none (Some file) other none = cc
-
-either_past : (own : Option FileState) → either_file own None ≡ own
-either_past None = refl
-either_past (Some file) = refl
 
 not_some : (o : Option FileState) (file : FileState) → o ≡ None → o ≡ Some file → ⊥
 not_some o file none some = cc
@@ -54,7 +47,7 @@ module _ (t : TakenFile) where
 
   pub push_other : (files : List TakenFile) (n : ChunkName) → n ≢ t.name → in_hand (files ++ t ∷ []) n ≡ in_hand files n
   unfolding tail_at
-  push_other files n differ = push_in_hand files n ∙ rw (is_name-other n t.name differ) (either_past (in_hand files n))
+  push_other files n differ = push_in_hand files n ∙ rw (is_name-other n t.name differ) (either_alone (in_hand files n))
 
   -- where the longer list has none of a name, neither has the shorter one, and the last one has another
   parts_none : (own : Option FileState) (b : Bool) (file : FileState) → either_file own (if b then Some file else None) ≡ None → (own ≡ None) × (b ≡ false)

@@ -40,14 +40,14 @@ abbrev pub AllDurableWith : Port → List TakenFile → Type 0
 AllDurableWith port files = (name : ChunkName) → IfSome (files_with port files name) IsDurable
 
 -- the name and all bytes of a file in hand
-abbrev pub bytes_of : TakenFile → FileBytes
-bytes_of taken = record { name = taken.name; bytes = taken.file.bytes }
+abbrev pub read_bytes : TakenFile → FileBytes
+read_bytes taken = record { name = taken.name; bytes = taken.file.bytes }
 
 -- all files at the port have lasting names
 abbrev pub AllNamed : Port → Type 0
 AllNamed port = (name : ChunkName) (file : FileState) → port.held name ≡ Some file → file.named ≡ true
 
 -- nothing is out or may come back, and the port has the same files
-pub record IsKept (old new : Port) : Type 0 where
+pub record IsPortKept (old new : Port) : Type 0 where
   pub given_back : IsGivenBack new
   pub held : SameAt old.held new.held

@@ -16,6 +16,3 @@ mod taking;
 pub use ended::Ended;
 pub use refusal::RestartRefusal;
 pub use restarting::restart;
-
-#[cfg(test)]
-mod tests;

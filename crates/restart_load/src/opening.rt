@@ -7,7 +7,7 @@ ghost use Rattle.dir_files.specs.Ports.{SamePort};
 ghost use Rattle.dir_files.specs.PortStates.{IsGivenBack};
 ghost use Rattle.partition_writer.specs.WriterViews.{standing};
 ghost use Rattle.restart_load.specs.Opening.{AreOpened, CanOpen, CanOpenAll, HasNoFile, IsOpened};
-ghost use Rattle.restart_load.specs.Taking.{IsKept};
+ghost use Rattle.restart_load.specs.Taking.{IsPortKept};
 ghost use Rattle.restart_load.specs.Writers.{EachIs, standings};
 
 use dir_files::Folder;
@@ -70,7 +70,7 @@ fn open_each<F: Folder>(
 fn close_one<F: Folder>(folder: &mut F, writer: Writer<F>)
     requires none { F.tells ≡ true → HasNoFile (standing writer) }
     requires given_back { F.tells ≡ true → IsGivenBack (F.port folder.old) }
-    ensures same { F.tells ≡ true → IsKept (F.port folder.old) (F.port folder.new) }
+    ensures same { F.tells ≡ true → IsPortKept (F.port folder.old) (F.port folder.new) }
     ensures kept { F.count folder.old ≤ F.count folder.new }
 {
     folder.adopt(writer.close());
@@ -80,7 +80,7 @@ fn close_one<F: Folder>(folder: &mut F, writer: Writer<F>)
 fn close_all<F: Folder>(folder: &mut F, mut writers: Vec<Writer<F>>)
     requires none { F.tells ≡ true → EachIs HasNoFile (standings writers.items) }
     requires given_back { F.tells ≡ true → IsGivenBack (F.port folder.old) }
-    ensures same { F.tells ≡ true → IsKept (F.port folder.old) (F.port folder.new) }
+    ensures same { F.tells ≡ true → IsPortKept (F.port folder.old) (F.port folder.new) }
     ensures kept { F.count folder.old ≤ F.count folder.new }
 {
     while let Some(writer) = writers.pop() {
@@ -104,7 +104,7 @@ pub(crate) fn open_writers<F: Folder>(
     requires given_back { F.tells ≡ true → IsGivenBack (F.port folder.old) }
     ensures all { IfOk result (λ writers. length writers.items ≡ limits.now.partitions) }
     ensures opened { IfOk result (λ writers. AreOpened F.tells limits.now parts.items chunks.now (standings writers.items)) }
-    ensures same { F.tells ≡ true → IsKept (F.port folder.old) (F.port folder.new) }
+    ensures same { F.tells ≡ true → IsPortKept (F.port folder.old) (F.port folder.new) }
     ensures kept { F.count folder.old ≤ F.count folder.new }
 {
     let mut writers = Vec::with_capacity(alloc, limits.partitions as usize)?;

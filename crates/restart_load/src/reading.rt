@@ -6,7 +6,7 @@ ghost use Rattle.hr_base.specs.declared.limits.TheConstants.{MAX_FILE_LEN};
 ghost use Rattle.dir_files.specs.Faults.{CountsFault, is_fault};
 ghost use Rattle.dir_files.specs.Ports.{SamePort};
 ghost use Rattle.restart_load.specs.Reading.{IsFirstLarge, IsReadRefusal};
-ghost use Rattle.restart_load.specs.Taking.{bytes_of};
+ghost use Rattle.restart_load.specs.Taking.{read_bytes};
 
 use crate::contents::Contents;
 use crate::refusal::RestartRefusal;
@@ -48,7 +48,7 @@ fn read_file<F: Folder>(
 ) -> Result<Contents, RestartRefusal>
     requires some { 0 < length piece.old }
     ensures piece { length piece.new ≡ length piece.old }
-    ensures read { F.tells ≡ true → IfOk result (λ contents. contents ≡ bytes_of taken.old) }
+    ensures read { F.tells ≡ true → IfOk result (λ contents. contents ≡ read_bytes taken.old) }
     ensures name { IfOk result (λ contents. contents.name ≡ taken.old.name) }
     ensures small { IfOk result (λ contents. length contents.bytes ≤ MAX_FILE_LEN) }
     ensures refused { IfErr result (IsReadRefusal F.tells taken.old) }
@@ -82,7 +82,7 @@ pub(crate) fn read_files<F: Folder>(
     piece: &mut [u8],
 ) -> Result<Vec<Contents>, RestartRefusal>
     requires some { 0 < length piece.old }
-    ensures read { F.tells ≡ true → IfOk result (λ contents. contents.items ≡ map bytes_of files.old) }
+    ensures read { F.tells ≡ true → IfOk result (λ contents. contents.items ≡ map read_bytes files.old) }
     ensures names { IfOk result (λ contents. map (λ one. one.name) contents.items ≡ map (λ taken. taken.name) files.old) }
     ensures small { IfOk result (λ contents. All (λ one. length one.bytes ≤ MAX_FILE_LEN) contents.items) }
     ensures refused { IfErr result (IsFirstLarge F.tells files.old) }

@@ -13,7 +13,7 @@ ghost use Rattle.crash_law.specs.Restarts.{IsRestartable};
 ghost use Rattle.restart_load.specs.Contents.{AreFilesOf, InNameOrder};
 ghost use Rattle.restart_load.specs.Reading.{IsFirstLarge, IsFolderRefusal};
 ghost use Rattle.restart_load.specs.Refusals.{IsPrintable, IsRefusedFor};
-ghost use Rattle.restart_load.specs.Taking.{AllDurableWith, AllNamed, HasTaken, bytes_of};
+ghost use Rattle.restart_load.specs.Taking.{AllDurableWith, AllNamed, HasTaken, read_bytes};
 ghost use Rattle.restart_load.specs.Writers.{AreResumed, EachIs, HasLimits, standings};
 
 use crate::contents::Contents;
@@ -47,7 +47,7 @@ fn secure<F: Folder>(
     requires named { F.tells ≡ true → AllNamed (F.port folder.old) }
     ensures taken { F.tells ≡ true → HasTaken (F.port folder.old) (F.port folder.new) files.new.items }
     ensures durable { F.tells ≡ true → OnOk result (AllDurableWith (F.port folder.new) files.new.items) }
-    ensures read { F.tells ≡ true → IfOk result (λ contents. contents.items ≡ map bytes_of files.new.items) }
+    ensures read { F.tells ≡ true → IfOk result (λ contents. contents.items ≡ map read_bytes files.new.items) }
     ensures names { IfOk result (λ contents. map (λ one. one.name) contents.items ≡ names.now) }
     ensures small { IfOk result (λ contents. All (λ one. length one.bytes ≤ MAX_FILE_LEN) contents.items) }
     ensures refused { IfErr result (λ refusal. IsFirstLarge F.tells files.new.items refusal) }

@@ -6,6 +6,7 @@ pub mod LineTexts
 pub mod Numbers
 pub mod Printings
 pub mod Readings
+pub mod Scanned
 pub mod Spellings
 pub mod Steps
 pub mod Texts

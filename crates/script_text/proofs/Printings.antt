@@ -6,7 +6,7 @@ use Rattle.std.proofs.lemmas.List.Elements.{All-cons, All-append, All-weaker}
 use Rattle.script_text.specs.declared.line.Line.{Line}
 use Rattle.script_text.specs.declared.line.Line.TheVariants.{Put, Remove, Clear, Get, Sync}
 use Rattle.script_text.specs.declared.line.Mode.{Mode}
-use Rattle.script_text.specs.Lines.{IsLine, IsScript, before_first, line_text, lines_text, partition_of, texts_of, with_last_end}
+use Rattle.script_text.specs.Lines.{IsLine, IsScript, before_first, line_text, lines_text, partition_of, line_texts, with_last_end}
 use Rattle.script_text.specs.Texts.{text_of}
 use Rattle.script_text.proofs.ByteTexts.{text_of_visible}
 use Rattle.script_text.proofs.CommandTexts.{command_text, line_text-split, IsLine-partition}
@@ -82,19 +82,19 @@ before_some : (b : ℕ) (all : List (List ℕ)) → (text : List ℕ) × (texts 
 before_some b [] = (b ∷ [], [], refl)
 before_some b (text ∷ texts) = (b ∷ text, texts, refl)
 
-texts_of-some : (b : ℕ) (bytes : List ℕ) → (text : List ℕ) × (texts : List (List ℕ)) × (texts_of (b ∷ bytes) ≡ text ∷ texts)
+texts_of-some : (b : ℕ) (bytes : List ℕ) → (text : List ℕ) × (texts : List (List ℕ)) × (line_texts (b ∷ bytes) ≡ text ∷ texts)
 texts_of-some b bytes = elim (cases_eq b 10) [
-  | inl e ↦ ([], texts_of bytes, ap (λ n. texts_of (n ∷ bytes)) e)
-  | inr other ↦ let found = before_some b (texts_of bytes) in (found.0, found.1, texts_of-other b bytes other ∙ found.2)
+  | inl e ↦ ([], line_texts bytes, ap (λ n. line_texts (n ∷ bytes)) e)
+  | inr other ↦ let found = before_some b (line_texts bytes) in (found.0, found.1, texts_of-other b bytes other ∙ found.2)
 ]
 
 ended-before : (b : ℕ) (text : List ℕ) (texts all : List (List ℕ)) → all ≡ text ∷ texts → ended (before_first b all) ≡ b ∷ ended all
 ended-before b text texts all e = ap (λ ts. ended (before_first b ts)) e ∙ ap (λ ts. b ∷ ended ts) (sym e)
 
-ended-texts_of : (bytes : List ℕ) → ended (texts_of bytes) ≡ with_last_end bytes
+ended-texts_of : (bytes : List ℕ) → ended (line_texts bytes) ≡ with_last_end bytes
 ended-texts_of [] = refl
 ended-texts_of (b ∷ []) = elim (cases_eq b 10) [
-  | inl e ↦ ap (λ n. ended (texts_of (n ∷ []))) e ∙ ap (λ n. with_last_end (n ∷ [])) (sym e)
+  | inl e ↦ ap (λ n. ended (line_texts (n ∷ []))) e ∙ ap (λ n. with_last_end (n ∷ [])) (sym e)
   | inr other ↦
       let test = false_from_ne_true (b == 10) (λ e. other (eqb-true b 10 e)) in
       ap ended (texts_of-other b [] other) ∙ sym (ap (λ t. cond t (b ∷ []) (b ∷ 10 ∷ [])) test)
@@ -103,10 +103,10 @@ ended-texts_of (b ∷ c ∷ bytes) =
     let rest = ended-texts_of (c ∷ bytes) in
     elim (cases_eq b 10) [
       | inl e ↦
-          ap (λ n. ended (texts_of (n ∷ c ∷ bytes))) e ∙ ap (λ t. 10 ∷ t) rest ∙ ap (λ n. n ∷ with_last_end (c ∷ bytes)) (sym e)
+          ap (λ n. ended (line_texts (n ∷ c ∷ bytes))) e ∙ ap (λ t. 10 ∷ t) rest ∙ ap (λ n. n ∷ with_last_end (c ∷ bytes)) (sym e)
       | inr other ↦
           let found = texts_of-some c bytes in
-          ap ended (texts_of-other b (c ∷ bytes) other) ∙ ended-before b found.0 found.1 (texts_of (c ∷ bytes)) found.2 ∙ ap (λ t. b ∷ t) rest
+          ap ended (texts_of-other b (c ∷ bytes) other) ∙ ended-before b found.0 found.1 (line_texts (c ∷ bytes)) found.2 ∙ ap (λ t. b ∷ t) rest
     ]
 
 lines_text-ended : (lines : List Line) → lines_text lines ≡ ended (map line_text lines)

@@ -41,6 +41,17 @@ spelled_rest (x ∷ front) (y ∷ bytes) rest small_f small_b e =
     let parts = byte_text_one x y (flat_map byte_text front ++ rest) (flat_map byte_text bytes) (All-head (λ b. b < 256) x front small_f) (All-head (λ b. b < 256) y bytes small_b) (sym (append_assoc (byte_text x) (flat_map byte_text front) rest) ∙ e) in
     spelled_rest front bytes rest (All-tail (λ b. b < 256) x front small_f) (All-tail (λ b. b < 256) y bytes small_b) parts.1
 
+-- and where something follows, there are more of the bytes
+pub spelled_within : (front bytes rest : List ℕ) → All (λ b. b < 256) front → All (λ b. b < 256) bytes → flat_map byte_text front ++ rest ≡ flat_map byte_text bytes → 0 < length rest → length front < length bytes
+spelled_within [] [] rest small_f small_b e some = absurd (omega (arith, ap length e, some))
+spelled_within [] (y ∷ bytes) rest small_f small_b e some = omega arith
+spelled_within (x ∷ front) [] rest small_f small_b e some =
+    absurd (omega (arith, length-byte_text x, ap length e, length-append (flat_map byte_text (x ∷ front)) rest, length-append (byte_text x) (flat_map byte_text front)))
+spelled_within (x ∷ front) (y ∷ bytes) rest small_f small_b e some =
+    let parts = byte_text_one x y (flat_map byte_text front ++ rest) (flat_map byte_text bytes) (All-head (λ b. b < 256) x front small_f) (All-head (λ b. b < 256) y bytes small_b) (sym (append_assoc (byte_text x) (flat_map byte_text front) rest) ∙ e) in
+    let more = spelled_within front bytes rest (All-tail (λ b. b < 256) x front small_f) (All-tail (λ b. b < 256) y bytes small_b) parts.1 some in
+    omega (arith, more)
+
 -- a text is no shorter than its bytes, and as long only where each of them stands for itself
 spelled_longer : (bytes : List ℕ) → length bytes ≤ length (flat_map byte_text bytes)
 spelled_longer [] = omega arith

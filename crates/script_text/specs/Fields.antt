@@ -1,5 +1,5 @@
 -- What the reading of one line goes by: its fields, and the byte that parts two of them.
-use Rattle.std.specs.Prelude.{◌≡◌, ◌≢◌, ℕ, ◌+◌, ◌*◌, ◌-◌, ◌<◌, ◌^◌, ◌==◌, nat_lt, List, [], ◌∷◌, ◌++◌, All, codes, decimal, length, if◌then◌else◌}
+use Rattle.std.specs.Prelude.{◌≡◌, ◌≢◌, ℕ, ◌+◌, ◌*◌, ◌-◌, ◌<◌, ◌≤◌, ◌^◌, ◌==◌, nat_lt, List, [], ◌∷◌, ◌++◌, All, codes, decimal, length, if◌then◌else◌}
 use Rattle.hr_base.specs.declared.limits.TheConstants.{MAX_KEY_LEN, MAX_VALUE_LEN}
 use Rattle.script_text.specs.declared.line.Line.{Line}
 use Rattle.script_text.specs.declared.line.Line.TheVariants.{Put, Remove, Clear, Get, Sync}
@@ -76,3 +76,11 @@ IsCommandText bytes (Remove p prefix key) = (arguments : List ℕ) × (bytes ≡
 IsCommandText bytes (Clear p prefix) = (arguments : List ℕ) × (bytes ≡ codes "clear " ++ arguments) × (prefix < 2 ^ 64) × (arguments ≡ decimal prefix)
 IsCommandText bytes (Get p prefix key) = (arguments : List ℕ) × (bytes ≡ codes "get " ++ arguments) × IsKeyText arguments prefix key
 IsCommandText bytes (Sync p) = bytes ≡ codes "sync"
+
+-- what the line borrows is no longer than a key and a value may be
+abbrev pub KeepsLengths : BorrowedLine → Type 0
+KeepsLengths (borrowed.Put p prefix key value) = (length (word_bytes key) ≤ MAX_KEY_LEN) × (length (word_bytes value) ≤ MAX_VALUE_LEN)
+KeepsLengths (borrowed.Remove p prefix key) = length (word_bytes key) ≤ MAX_KEY_LEN
+KeepsLengths (borrowed.Clear p prefix) = Unit {0}
+KeepsLengths (borrowed.Get p prefix key) = length (word_bytes key) ≤ MAX_KEY_LEN
+KeepsLengths (borrowed.Sync p) = Unit {0}

@@ -3,3 +3,4 @@ pub mod Lines
 pub mod Replies
 pub mod Dumps
 pub mod Texts
+pub mod Scripts

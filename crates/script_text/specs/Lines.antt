@@ -13,9 +13,9 @@ before_first b [] = (b ∷ []) ∷ []
 before_first b (text ∷ texts) = (b ∷ text) ∷ texts
 
 -- the lines of the bytes, without their ends
-abbrev pub texts_of : List ℕ → List (List ℕ)
-texts_of [] = []
-texts_of (b ∷ bytes) = if b == 10 then [] ∷ texts_of bytes else before_first b (texts_of bytes)
+abbrev pub line_texts : List ℕ → List (List ℕ)
+line_texts [] = []
+line_texts (b ∷ bytes) = if b == 10 then [] ∷ line_texts bytes else before_first b (line_texts bytes)
 
 -- the bytes, with a line's end added where the last line lacks it
 abbrev pub with_last_end : List ℕ → List ℕ
@@ -54,7 +54,7 @@ lines_text lines = flat_map (λ line. line_text line ++ codes "\n") lines
 -- the bytes are the script of these lines
 pub record IsScript (mode : Mode) (partitions : ℕ) (bytes : List ℕ) (lines : List Line) : Type 0 where
   pub valid : All (IsLine mode partitions) lines
-  pub text : texts_of bytes ≡ map line_text lines
+  pub text : line_texts bytes ≡ map line_text lines
 
 -- line `number`, counted from 1, is the first that is no line of the grammar
 pub record IsFirstBad (mode : Mode) (partitions : ℕ) (bytes : List ℕ) (number : ℕ) : Type 0 where
@@ -63,5 +63,5 @@ pub record IsFirstBad (mode : Mode) (partitions : ℕ) (bytes : List ℕ) (numbe
   pub after : List (List ℕ)
   pub counted : number ≡ length front + 1
   pub valid : All (IsLine mode partitions) front
-  pub split : texts_of bytes ≡ map line_text front ++ bad ∷ after
+  pub split : line_texts bytes ≡ map line_text front ++ bad ∷ after
   pub none : (line : Line) → IsLine mode partitions line → bad ≡ line_text line → ⊥

@@ -14,7 +14,8 @@ pub enum Mode {
     Run,
 }
 
-/// One line of a script.
+/// One line of a script, as contracts see it. The program reads and prints a `LineView`, whose key and value lie
+/// elsewhere.
 #[derive(Debug, PartialEq, Eq, Drop)]
 pub enum Line {
     /// Gives a key a value.

@@ -2,17 +2,18 @@
 
 ghost use Rattle.std.specs.Prelude.{◌≡◌, ◌++◌, ◌∷◌, codes, decimal, length, take, OnOk, OnErr};
 ghost use Rattle.script_text.specs.Lines.{line_text};
+ghost use Rattle.script_text.specs.Scripts.{line_of_view};
 ghost use Rattle.script_text.specs.Texts.{text_of};
 
-use crate::line::Line;
 use crate::text::append_text;
+use crate::view::LineView;
 use hr_base::{Memory, Partition};
 use itoa::Buffer;
 use std::alloc::AllocError;
 
 /// Appends a line with its end. Where there is no memory, `out` stays as it was.
-pub fn print_line(line: &Line, out: &mut Vec<u8>) -> Result<(), Memory>
-    ensures ok { OnOk result (out.new.items ≡ out.old.items ++ line_text line.now ++ codes "\n") }
+pub fn print_line(line: &LineView, out: &mut Vec<u8>) -> Result<(), Memory>
+    ensures ok { OnOk result (out.new.items ≡ out.old.items ++ line_text (line_of_view line.now) ++ codes "\n") }
     ensures err { OnErr result (out.new.items ≡ out.old.items) }
 {
     let before = out.len();
@@ -26,12 +27,12 @@ pub fn print_line(line: &Line, out: &mut Vec<u8>) -> Result<(), Memory>
 }
 
 // Appends a line with its end. What was there before stays.
-fn append_line(out: &mut Vec<u8>, line: &Line) -> Result<(), AllocError>
-    ensures ok { OnOk result (out.new.items ≡ out.old.items ++ line_text line.now ++ codes "\n") }
+fn append_line(out: &mut Vec<u8>, line: &LineView) -> Result<(), AllocError>
+    ensures ok { OnOk result (out.new.items ≡ out.old.items ++ line_text (line_of_view line.now) ++ codes "\n") }
     ensures kept { take (length out.old.items) out.new.items ≡ out.old.items }
 {
     match line {
-        Line::Put {
+        LineView::Put {
             p,
             prefix,
             key,
@@ -39,24 +40,24 @@ fn append_line(out: &mut Vec<u8>, line: &Line) -> Result<(), AllocError>
         } => {
             append_head(out, *p, b" put ")?;
             append_number(out, *prefix)?;
-            append_word(out, key.as_slice())?;
-            append_word(out, value.as_slice())?;
+            append_word(out, *key)?;
+            append_word(out, *value)?;
         }
-        Line::Remove { p, prefix, key } => {
+        LineView::Remove { p, prefix, key } => {
             append_head(out, *p, b" remove ")?;
             append_number(out, *prefix)?;
-            append_word(out, key.as_slice())?;
+            append_word(out, *key)?;
         }
-        Line::Clear { p, prefix } => {
+        LineView::Clear { p, prefix } => {
             append_head(out, *p, b" clear ")?;
             append_number(out, *prefix)?;
         }
-        Line::Get { p, prefix, key } => {
+        LineView::Get { p, prefix, key } => {
             append_head(out, *p, b" get ")?;
             append_number(out, *prefix)?;
-            append_word(out, key.as_slice())?;
+            append_word(out, *key)?;
         }
-        Line::Sync { p } => append_head(out, *p, b" sync")?,
+        LineView::Sync { p } => append_head(out, *p, b" sync")?,
     }
     out.push(b'\n')?;
     Ok(())

@@ -6,10 +6,9 @@ ghost use Rattle.script_text.specs.Fields.{HasWords, IsCommandText, IsKeyText, I
 ghost use Rattle.script_text.specs.Lines.{IsLine, line_text, partition_of};
 
 use crate::fields::{cut_at, read_partition};
-use crate::line::{Line, Mode};
-use crate::text::{Word, owned_bytes, read_word};
+use crate::line::Mode;
+use crate::text::{Word, read_word};
 use hr_base::{MAX_KEY_LEN, MAX_VALUE_LEN, Partition, read_decimal};
-use std::alloc::{AllocError, Global};
 
 // A line whose key and value are borrowed from its text.
 #[derive(Clone, Copy)]
@@ -87,31 +86,4 @@ fn read_key(arguments: &[u8]) -> Option<(u64, Word<'_>)>
     let prefix = read_decimal(field)?;
     let key = read_word(key_text, MAX_KEY_LEN)?;
     Some((prefix, key))
-}
-
-// The line with a key and a value of its own.
-pub(crate) fn owned(alloc: Global, line: BorrowedLine) -> Result<Line, AllocError>
-    requires { HasWords line }
-    ensures { IfOk result (λ l. l ≡ line_of line.entry) }
-{
-    match line {
-        BorrowedLine::Put(p, prefix, key, value) => Ok(Line::Put {
-            p,
-            prefix,
-            key: owned_bytes(alloc, key)?,
-            value: owned_bytes(alloc, value)?,
-        }),
-        BorrowedLine::Remove(p, prefix, key) => Ok(Line::Remove {
-            p,
-            prefix,
-            key: owned_bytes(alloc, key)?,
-        }),
-        BorrowedLine::Clear(p, prefix) => Ok(Line::Clear { p, prefix }),
-        BorrowedLine::Get(p, prefix, key) => Ok(Line::Get {
-            p,
-            prefix,
-            key: owned_bytes(alloc, key)?,
-        }),
-        BorrowedLine::Sync(p) => Ok(Line::Sync { p }),
-    }
 }

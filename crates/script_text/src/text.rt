@@ -1,12 +1,11 @@
 //! The text form of keys and values.
 
-ghost use Rattle.std.specs.Prelude.{◌≡◌, ◌≤◌, ◌<◌, ◌*◌, ◌+◌, ◌++◌, ◌↔◌, ℕ, All, IfNone, IfOk, IfSome, IsTrue, List, OnOk, codes, length, take};
+ghost use Rattle.std.specs.Prelude.{◌≡◌, ◌≤◌, ◌<◌, ◌*◌, ◌+◌, ◌++◌, ◌↔◌, ℕ, All, IfNone, IfOk, IfSome, IsTrue, List, [], OnOk, codes, length, take, vec_capacity};
 ghost use Rattle.std.specs.List.{flat_map};
 ghost use Rattle.script_text.specs.Fields.{IsByteAndRest, IsWord, bytes_of, word_bytes};
 ghost use Rattle.script_text.specs.Texts.{IsByteString, byte_text, is_plain, text_of, upper_digit};
 
-use bytes::Bytes;
-use std::alloc::{AllocError, Global};
+use std::alloc::AllocError;
 
 // A key or a value as it stands in a line, and the count of its bytes.
 #[derive(Clone, Copy)]
@@ -116,33 +115,39 @@ fn is_plain(byte: u8) -> bool
     byte >= 33 && byte <= 126 && byte != b'%'
 }
 
-// The bytes of a key or a value. Where each stands for itself, they are copied as they are.
-pub(crate) fn owned_bytes(alloc: Global, word: Word) -> Result<Bytes, AllocError>
-    requires { IsWord word }
-    ensures { IfOk result (λ bytes. bytes ≡ word_bytes word.entry) }
+// Puts the bytes of a key or a value into a buffer that has room for them. Where each stands for itself, they are copied as
+// they are.
+pub(crate) fn decode(word: Word, out: &mut Vec<u8>)
+    requires word { IsWord word }
+    requires room { length (word_bytes word) ≤ vec_capacity out.old }
+    ensures bytes { out.new.items ≡ word_bytes word.entry }
+    ensures room { vec_capacity out.old ≤ vec_capacity out.new }
 {
+    out.clear();
     if word.length == word.text.len() {
-        return Bytes::copy_from_slice(alloc, word.text);
+        match out.extend_from_slice(word.text) {
+            Ok(()) => {}
+            Err(_refused) => unreachable!(),
+        }
+    } else if word.length > 0 {
+        push_bytes(out, word.text);
     }
-    let mut bytes = Vec::with_capacity(alloc, word.length)?;
-    if word.length > 0 {
-        push_bytes(&mut bytes, word.text)?;
-    }
-    Ok(Bytes::from_vec(bytes)?)
 }
 
-// Appends the bytes that a text without a lone percent sign stands for.
-fn push_bytes(out: &mut Vec<u8>, text: &[u8]) -> Result<(), AllocError>
+// Appends the bytes that a text without a lone percent sign stands for, for which there is room.
+fn push_bytes(out: &mut Vec<u8>, text: &[u8])
     requires each { All (λ b. b < 256) (bytes_of text.now) }
     requires spelled { text.now ≡ flat_map byte_text (bytes_of text.now) }
-    ensures { OnOk result (out.new.items ≡ out.old.items ++ bytes_of text.now) }
+    requires empty { out.old.items ≡ [] }
+    requires room { length (bytes_of text.now) ≤ vec_capacity out.old }
+    ensures bytes { out.new.items ≡ bytes_of text.now }
+    ensures room { vec_capacity out.old ≤ vec_capacity out.new }
 {
     let mut rest = text;
     while let Some((byte, after)) = first_byte(rest) {
-        out.push(byte)?;
+        out.push_reserved(byte);
         rest = after;
     }
-    Ok(())
 }
 
 // Appends the text of bytes. What was there before stays.

@@ -7,13 +7,13 @@ use Rattle.std.proofs.lemmas.List.{append-nil, length-append, map-append, take-a
 use Rattle.std.proofs.lemmas.Simd.{map-map}
 use Rattle.std.proofs.Math.Seq.{take-append-add, take-append_seam}
 use Rattle.hr_base.specs.Entries.{Entries}
-use Rattle.hr_edges.specs.Edges.{Takes, TakesAtLeast, TakesFront}
+use Rattle.hr_edges.specs.Edges.{TakesAll, TakesAtLeast, TakesFront}
 use Rattle.hr_edges.proofs.Writings.{Takes-append, Takes-nothing, TakesAtLeast-append}
 use Rattle.dir_files.specs.Images.{Image, KeepsImages, read_of}
 use Rattle.dir_files.specs.Ports.{Port, either_file}
 use Rattle.dir_files.specs.PortStates.{IsAtRest, IsGivenBack}
-use Rattle.dir_files.specs.Files.{FileState}
 use Rattle.hr_base.specs.declared.name.ChunkName.{ChunkName}
+use Rattle.dir_files.proofs.JoinLaws.{either_same}
 use Rattle.crash_law.specs.Restarts.{AllRestart}
 use Rattle.ram_map.specs.Nested.{triple_of}
 use Rattle.script_text.specs.Dumps.{dump_lines, entry_text, lines_of_maps}
@@ -32,8 +32,8 @@ use Rattle.store_drill.specs.Writers.{files_at, files_in}
 flat_append : (xs ys : List (List ℕ)) → flat (xs ++ ys) ≡ flat xs ++ flat ys
 flat_append xs ys = flat_map-append (λ (line : List ℕ). line) xs ys
 
-takes_some : (old new : Option (List ℕ)) (xs ys : List ℕ) → xs ≡ ys → Takes old new xs → Takes old new ys
-takes_some old new xs ys same takes = subst (λ (bytes : List ℕ). Takes old new bytes) same takes
+takes_some : (old new : Option (List ℕ)) (xs ys : List ℕ) → xs ≡ ys → TakesAll old new xs → TakesAll old new ys
+takes_some old new xs ys same takes = subst (λ (bytes : List ℕ). TakesAll old new bytes) same takes
 
 front_of : (least : ℕ) (old new : Option (List ℕ)) (bytes : List ℕ) → TakesAtLeast least old new bytes → TakesFront old new bytes
 front_of least None new bytes takes = tt
@@ -86,7 +86,7 @@ dump_none a = Takes-nothing a
 -- ---- one line
 
 -- it was written, or a front of it
-pub dump_line : (line : List ℕ) (a b : Option (List ℕ)) → Takes a b line → DumpAt Whole (line ∷ []) a b
+pub dump_line : (line : List ℕ) (a b : Option (List ℕ)) → TakesAll a b line → DumpAt Whole (line ∷ []) a b
 dump_line line a b takes = takes_some a b line (line ++ []) (sym (append-nil line)) takes
 
 pub dump_front : (line : List ℕ) (a b : Option (List ℕ)) → TakesFront a b line → DumpAt Sink (line ∷ []) a b
@@ -161,10 +161,6 @@ written_of ended p q m n a b here same wrote =
 none_at : (writers : List Standing) (o : Option Standing) (name : ChunkName) → ((s : Standing) → o ≡ Some s → files_in (Some s) name ≡ None) → files_in o name ≡ None
 none_at writers None name none = refl
 none_at writers (Some s) name none = none s refl
-
-either_same : (own other : Option FileState) → other ≡ None → either_file own other ≡ own
-either_same None other none = none
-either_same (Some file) other none = refl
 
 -- where no writer has a file
 pub closed_keeps : (tells : Bool) (image : Image) (writers : List Standing) (old new : Port) → AreResumed tells image writers → tells ≡ true → IsAtRest old → IsGivenBack new

@@ -1,5 +1,5 @@
 -- What the writers of a session begin with, how they are closed, and what they leave in the folder.
-use Rattle.std.specs.Prelude.{◌≡◌, ◌⊎◌, ℕ, ◌+◌, ◌-◌, ◌<◌, ◌≤◌, ◌^◌, min, Bool, true, false, ◌&&◌, ◌||◌, not, is_some, List, [], ◌∷◌, ◌++◌, length, Option, Some, None, slice_get, refl}
+use Rattle.std.specs.Prelude.{◌≡◌, ◌⊎◌, ℕ, ◌+◌, ◌-◌, ◌<◌, ◌≤◌, ◌^◌, min, Bool, true, false, List, [], ◌∷◌, ◌++◌, length, Option, Some, None, slice_get, refl}
 use Rattle.std.specs.Option.{option_map}
 use Rattle.std.specs.FinMap.{empty}
 use Rattle.std.proofs.Common.{sym, ◌∙◌, ap, subst, inl, inr, arith, append_assoc}
@@ -8,9 +8,9 @@ use Rattle.std.proofs.lemmas.List.Sums.{sum_by_push}
 use Rattle.std.proofs.lemmas.Option.{slice_get_cases, slice_get_past, slice_get_within}
 use Rattle.hr_base.specs.Entries.{Entries}
 use Rattle.hr_base.specs.declared.name.ChunkName.{ChunkName}
-use Rattle.dir_files.specs.Files.{FileState, Files}
+use Rattle.dir_files.specs.Files.{FileState}
 use Rattle.dir_files.specs.Images.{Image, KeepsImages, read_of}
-use Rattle.dir_files.specs.Ports.{CanJoin, Joins, Port, either_file}
+use Rattle.dir_files.specs.Ports.{Port, either_file}
 use Rattle.dir_files.specs.PortStates.{IsAtRest, IsGivenBack}
 use Rattle.crash_law.specs.Accounts.{Account, fresh_account}
 use Rattle.crash_law.specs.Crashes.{AllSurvive, PartSurvives}
@@ -32,67 +32,16 @@ use Rattle.restart_load.specs.declared.refusal.RestartRefusal.TheVariants as ref
 use Rattle.restart_load.specs.declared.ended.Ended.{Ended}
 use Rattle.restart_load.specs.declared.ended.Ended.TheVariants.{Load}
 use Rattle.hr_base.specs.declared.limits.Limits.{Limits}
+use Rattle.dir_files.proofs.JoinLaws.{either_same, no_some}
 use Rattle.store_drill.specs.Accounts.{accounts_at}
-use Rattle.store_drill.specs.Numbers.{Start, numbers_at}
+use Rattle.store_drill.specs.Numbers.{SessionStart, numbers_at}
 use Rattle.store_drill.specs.Playing.{Played}
 use Rattle.store_drill.specs.Sessions.{IsRefusal, IsStart, NotBegun, Outside, Ran, Session}
-use Rattle.store_drill.specs.Writers.{EachFits, HasMaps, HasNumber, HaveStart, IsApart, IsLimited, IsWhole, OwnsFiles, StandsAt, faults_of, files_at, files_in, numbers_of}
+use Rattle.store_drill.specs.Writers.{EachFits, HasMaps, HasNumber, HaveStart, IsApart, IsLimited, LostNothing, OwnsFiles, StandsAt, faults_of, files_at, files_in, numbers_of}
 use Rattle.store_drill.proofs.StepLaws.{none_unless, same_numbers}
 use Rattle.store_drill.proofs.WriterListLaws.{get_at_end}
 
-no_some : {A : Type 0} (o : Option A) (x : A) → o ≡ None → o ≡ Some x → ⊥
-no_some o x none some = cc
-
-either_none : (own other : Option FileState) → own ≡ None → either_file own other ≡ other
-either_none None other none = refl
-either_none (Some file) other none = cc
-
-either_same : (own other : Option FileState) → other ≡ None → either_file own other ≡ own
-either_same None other none = none
-either_same (Some file) other none = refl
-
 -- ---- a writer is closed
-
-found_of : (held removed : Option FileState) → removed ≡ None → (is_some held || is_some removed) ≡ true → (file : FileState) × (held ≡ Some file)
-found_of (Some file) removed none is = (file, refl)
-found_of None None none is = cc
-found_of None (Some file) none is = cc
-
-absent_of : (held removed : Option FileState) → removed ≡ None → ((file : FileState) → held ≡ Some file → ⊥) → (is_some held || is_some removed) ≡ false
-absent_of (Some file) removed none never = absurd (never file refl)
-absent_of None None none never = refl
-absent_of None (Some file) none never = cc
-
-not_both : (b : Bool) → b ≡ false → b ≡ true → ⊥
-not_both b f t = cc
-
--- the folder can take its port in, where no file of it is there
-pub can_join : (a b : Port) (files : Files) → IsGivenBack a → IsGivenBack b → ((name : ChunkName) → b.held name ≡ files name)
-    → ((name : ChunkName) (file : FileState) → files name ≡ Some file → a.held name ≡ None) → CanJoin a b
-can_join a b files given given' held apart = record {
-  apart = λ n there.
-      let found = found_of (a.held n) (a.gone n) (given.gone n) there in
-      absent_of (b.held n) (b.gone n) (given'.gone n) (λ file is. no_some (a.held n) found.0 (apart n file (sym (held n) ∙ is)) found.1);
-  lent_apart = λ n out. absurd (not_both (a.lent n) (given.calm.lent n) out);
-  foreign_apart = λ n out. absurd (not_both (a.foreign n) (given.calm.foreign n) out);
-  lent_here = λ n out there. absurd (not_both (a.lent n) (given.calm.lent n) out);
-  lent_there = λ n out there. absurd (not_both (b.lent n) (given'.calm.lent n) out);
-}
-
-neither : (a b x y : Bool) → a ≡ false → b ≡ false → ((a && x) || (b && y)) ≡ false
-neither false false x y e f = refl
-neither false true x y e f = cc
-neither true b x y e f = cc
-
--- and nothing is out afterwards
-pub given_back_joined : (a b new : Port) → IsGivenBack a → IsGivenBack b → Joins a b new → IsGivenBack new
-given_back_joined a b new given given' joins = record {
-  calm = record {
-    lent = λ n. joins.lent n ∙ neither (a.lent n) (b.lent n) (not (b.foreign n)) (not (a.foreign n)) (given.calm.lent n) (given'.calm.lent n);
-    foreign = λ n. joins.foreign n ∙ neither (a.foreign n) (b.foreign n) (not (b.lent n)) (not (a.lent n)) (given.calm.foreign n) (given'.calm.foreign n);
-  };
-  gone = λ n. joins.gone n ∙ either_none (a.gone n) (b.gone n) (given.gone n) ∙ given'.gone n;
-}
 
 -- ---- writers are closed, the last one first
 
@@ -175,7 +124,7 @@ next_chunk_in None = 1
 next_chunk_in (Some s) = s.next_chunk
 
 -- what each partition begins with
-abbrev pub started : List Standing → Start
+abbrev pub started : List Standing → SessionStart
 started writers = record {
   maps = λ p. maps_in (slice_get writers p);
   next = λ p. next_in (slice_get writers p);
@@ -183,7 +132,7 @@ started writers = record {
 }
 
 -- and the same, over these files
-abbrev pub begins_of : Image → Start → ℕ → Beginning
+abbrev pub begins_of : Image → SessionStart → ℕ → Beginning
 begins_of image start p = record { found = image; maps = start.maps p; first = start.next p; first_chunk = start.next_chunk p }
 
 pub have_maps : (writers : List Standing) → EachFits HasMaps writers (started writers).maps
@@ -268,7 +217,7 @@ either_of : (a b : Option FileState) (file : FileState) → either_file a b ≡ 
 either_of None b file is = inr is
 either_of (Some f) b file is = inl is
 
-module _ (old : Port) (start : Start) (writers : List Standing) (accounts : ℕ → Account)
+module _ (old : Port) (start : SessionStart) (writers : List Standing) (accounts : ℕ → Account)
     (each : EachFits (StandsAt (begins_of (read_of old) start)) writers accounts) where
   -- the files of each writer are of its partition
   pub all_own : EachIs OwnsFiles writers
@@ -320,7 +269,7 @@ module _ (old : Port) (start : Start) (writers : List Standing) (accounts : ℕ 
         all_survive port.held port.gone partitions accounts known (λ name file is. absurd (no_some (port.gone name) file (given_back.gone name) is))
         (λ p below. let one = one_at p below in survives_at p one.0 one.1)
 
-    pub all_read : EachIs IsWhole writers → AllRestart (read_of port) partitions (λ p. (accounts p).maps)
+    pub all_read : EachIs LostNothing writers → AllRestart (read_of port) partitions (λ p. (accounts p).maps)
     all_read whole =
         all_restart (read_of port) partitions (λ p. (accounts p).maps) (λ name bytes is. let from = read_from (port.held name) bytes is in known name from.0 from.1)
         (λ p below. let one = one_at p below in restarts_at p one.0 one.1 (whole p one.0 one.1))
@@ -343,7 +292,7 @@ pub session_ran : (tells : Bool) (limits : Limits) (lines : List Line) (begun wr
     → (tells ≡ true → IsGivenBack new.port) → (tells ≡ true → (name : ChunkName) → new.port.held name ≡ either_file (old.port.held name) (files_at writers name))
     → Session tells limits lines old new ended
 session_ran tells limits lines begun writers old new ended all limited parts restartable rest played same given_back held =
-    let start : Start = started begun in
+    let start : SessionStart = started begun in
     let have : HaveStart limits begun start = have_started tells (read_of old.port) limits begun all limited in
     let accounts : ℕ → Account = accounts_at ended lines played.count (λ p. fresh_account (start.maps p)) in
     record {

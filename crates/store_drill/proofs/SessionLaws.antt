@@ -7,7 +7,7 @@ use Rattle.hr_base.specs.Counts.{Rose}
 use Rattle.hr_base.specs.declared.limits.Limits.{Limits}
 use Rattle.hr_base.specs.declared.name.Partition.{Partition}
 use Rattle.hr_base.specs.Entries.{Entries}
-use Rattle.hr_edges.specs.Edges.{Takes, TakesFront, TakesAtLeast}
+use Rattle.hr_edges.specs.Edges.{TakesAll, TakesFront, TakesAtLeast}
 use Rattle.hr_edges.proofs.Writings.{Takes-append, Takes-nothing, TakesAtLeast-append}
 use Rattle.crash_law.specs.Accounts.{Account}
 use Rattle.script_text.specs.declared.line.Line.{Line}
@@ -21,9 +21,9 @@ use Rattle.restart_load.specs.declared.ended.Ended.TheVariants as ends
 use Rattle.store_drill.specs.declared.step.Step.{Step}
 use Rattle.store_drill.specs.declared.step.Step.TheVariants.{Spent}
 use Rattle.store_drill.specs.Accounts.{account_after_line, accounts_after_lines, account_after_refused, accounts_after_refused}
-use Rattle.store_drill.specs.Numbers.{IsEnd, IsSpentAt, Numbers, SpendsAt, Start, numbers_after, numbers_after_lines, numbers_after_one, numbers_at, spent_for, written_for}
-use Rattle.store_drill.specs.Writers.{AreLimited, EachFits, HasMaps, HasNumber, HasNumbers, HaveStart, IsLimited, IsWhole, Runs, StandsAt, faults_of, numbers_of}
-use Rattle.store_drill.specs.Playing.{Counts, GoesOn, PlaysAmong, Played, needed}
+use Rattle.store_drill.specs.Numbers.{IsEnd, IsSpentAt, Numbers, SpendsAt, SessionStart, numbers_after, numbers_after_lines, numbers_after_one, numbers_at, spent_for, written_for}
+use Rattle.store_drill.specs.Writers.{AreLimited, EachFits, HasMaps, HasNumber, HasNumbers, HaveStart, IsLimited, LostNothing, Runs, StandsAt, faults_of, numbers_of}
+use Rattle.store_drill.specs.Playing.{CountsNumbers, GoesOn, PlaysAmong, Played, needed}
 use Rattle.store_drill.proofs.NumberLaws.{numbers_after_lines-push, spent_end, within_limits}
 use Rattle.store_drill.proofs.StepLaws.{none_unless}
 use Rattle.store_drill.proofs.WriterListLaws.{each_changed, each_is_changed, each_kept, faults_at}
@@ -58,8 +58,8 @@ pub record Going (tells : Bool) (lines : List Line) (count : ℕ) (old new : Lis
   pub maps : (m : ℕ → Entries) → EachFits HasMaps old m → EachFits HasMaps new (maps_after_lines (take count lines) m)
   pub numbers : EachFits HasNumber old (λ p. p) → EachFits HasNumber new (λ p. p)
   pub limits : (limits : Limits) → EachIs (HasLimits limits) old → EachIs (HasLimits limits) new
-  pub counted : (limits : Limits) (start : Start) → HaveStart limits old start → EachFits HasNumbers new (numbers_after_lines limits (take count lines) start.maps (numbers_at start))
-  pub unspent : (limits : Limits) (start : Start) → HaveStart limits old start → (i next : ℕ) → i < count → ¬ IsSpentAt limits lines i start next
+  pub counted : (limits : Limits) (start : SessionStart) → HaveStart limits old start → EachFits HasNumbers new (numbers_after_lines limits (take count lines) start.maps (numbers_at start))
+  pub unspent : (limits : Limits) (start : SessionStart) → HaveStart limits old start → (i next : ℕ) → i < count → ¬ IsSpentAt limits lines i start next
   pub limited : EachIs IsLimited old → EachIs IsLimited new
   pub runs : EachIs Runs new
   pub account : tells ≡ true → (begins : ℕ → Beginning) (a : ℕ → Account) → EachFits (StandsAt begins) old a → EachFits (StandsAt begins) new (accounts_after_lines (take count lines) a)
@@ -67,7 +67,7 @@ pub record Going (tells : Bool) (lines : List Line) (count : ℕ) (old new : Lis
 -- and what was written
 pub record SoFar (tells : Bool) (lines : List Line) (count : ℕ) (old new : List Standing) (before now : Option (List ℕ)) : Type 0 where
   pub going : Going tells lines count old new
-  pub text : (m : ℕ → Entries) → EachFits HasMaps old m → Takes before now (replies (take count lines) m)
+  pub text : (m : ℕ → Entries) → EachFits HasMaps old m → TakesAll before now (replies (take count lines) m)
 
 -- before the first line
 pub SoFar-none : (tells : Bool) (lines : List Line) (writers : List Standing) (before : Option (List ℕ)) → EachIs Runs writers → SoFar tells lines 0 writers writers before before
@@ -125,7 +125,7 @@ module _ (tells : Bool) (step : Step) (line : Line) (old new : List Standing) (t
       (each_changed HasMaps old m (partition_of line) plays.after (maps_after_line line (m (partition_of line))) each
       (on ∙ ap (maps_after_line line) (each (partition_of line) plays.before at)))
 
-  pub limits_go : (limits : Limits) → EachIs (HasLimits limits) old → Counts line plays.before plays.after → EachIs (HasLimits limits) new
+  pub limits_go : (limits : Limits) → EachIs (HasLimits limits) old → CountsNumbers line plays.before plays.after → EachIs (HasLimits limits) new
   limits_go limits each on =
       subst (λ (writers : List Standing). EachIs (HasLimits limits) writers) (sym plays.changed)
       (each_is_changed (HasLimits limits) old (partition_of line) plays.after each (on.limits ∙ each (partition_of line) plays.before at))
@@ -141,13 +141,13 @@ module _ (tells : Bool) (step : Step) (line : Line) (old new : List Standing) (t
     pub needed_with : needed line plays.before ≡ spent_for limits (n (partition_of line)) (written_for line (m (partition_of line)))
     needed_with = counted_with (λ l k e. spent_for l k (written_for line e))
 
-    pub counted_go : Counts line plays.before plays.after → EachFits HasNumbers new (numbers_after_one limits line m n)
+    pub counted_go : CountsNumbers line plays.before plays.after → EachFits HasNumbers new (numbers_after_one limits line m n)
     counted_go on =
         subst (λ (writers : List Standing). EachFits HasNumbers writers (numbers_after_one limits line m n)) (sym plays.changed)
         (each_changed HasNumbers old n (partition_of line) plays.after (numbers_after limits (n (partition_of line)) (written_for line (m (partition_of line)))) numbers
         (on.numbers ∙ counted_with (λ l k e. numbers_after l k (written_for line e))))
 
-  pub limited_go : EachIs IsLimited old → needed line plays.before ≡ None → Counts line plays.before plays.after → EachIs IsLimited new
+  pub limited_go : EachIs IsLimited old → needed line plays.before ≡ None → CountsNumbers line plays.before plays.after → EachIs IsLimited new
   limited_go each none on =
       subst (λ (writers : List Standing). EachIs IsLimited writers) (sym plays.changed)
       (each_is_changed IsLimited old (partition_of line) plays.after each
@@ -165,7 +165,7 @@ module _ (tells : Bool) (step : Step) (line : Line) (old new : List Standing) (t
       subst (λ (writers : List Standing). 1 ≤ faults_of writers) (sym plays.changed)
       (faults_at old (partition_of line) plays.after (slice_get_within old (partition_of line) plays.before at) (omega (arith, rose)))
 
-whole_all : (writers : List Standing) → EachIs Runs writers → EachIs IsWhole writers
+whole_all : (writers : List Standing) → EachIs Runs writers → EachIs LostNothing writers
 whole_all writers each q s is = (each q s is).whole
 
 -- ---- the line at this place
@@ -194,7 +194,7 @@ module _ (lines : List Line) (i : ℕ) (line : Line) (within : i < length lines)
 
   module _ (tells : Bool) (step : Step) (old mid new : List Standing) (before then' : Option (List ℕ)) (text : List ℕ)
       (so : SoFar tells lines i old mid before then') (plays : PlaysAmong tells step line mid new text) where
-    module _ (limits : Limits) (start : Start) (have : HaveStart limits old start) where
+    module _ (limits : Limits) (start : SessionStart) (have : HaveStart limits old start) where
       needed_here : needed line plays.before ≡ spent_for limits (numbers_after_lines limits (take i lines) start.maps (numbers_at start) (partition_of line)) (written_for line (maps_after_lines (take i lines) start.maps (partition_of line)))
       needed_here =
           needed_with tells step line mid new text plays limits (maps_after_lines (take i lines) start.maps) (numbers_after_lines limits (take i lines) start.maps (numbers_at start))
@@ -216,18 +216,18 @@ module _ (lines : List Line) (i : ℕ) (line : Line) (within : i < length lines)
       unneeded : needed line plays.before ≡ None
       unneeded = none_unless (needed line plays.before) (λ next is. other next (plays.plays.spent next is))
 
-      not_spent : (limits : Limits) (start : Start) → HaveStart limits old start → (next : ℕ) → ¬ IsSpentAt limits lines i start next
+      not_spent : (limits : Limits) (start : SessionStart) → HaveStart limits old start → (next : ℕ) → ¬ IsSpentAt limits lines i start next
       not_spent limits start have next spent = other next (plays.plays.spent next (needs_at limits start have next spent))
 
       -- so want of a number did not end the session here
-      spends_not : (ended : Ended) → ((next : ℕ) → ended ≡ ends.Spent next → ⊥) → (limits : Limits) (start : Start) → HaveStart limits old start → SpendsAt limits lines i i start ended
+      spends_not : (ended : Ended) → ((next : ℕ) → ended ≡ ends.Spent next → ⊥) → (limits : Limits) (start : SessionStart) → HaveStart limits old start → SpendsAt limits lines i i start ended
       spends_not ended unlike limits start have = record {
         unspent = so.going.unspent limits start have;
         spent = λ next e. absurd (unlike next e);
         told = λ next spent. absurd (not_spent limits start have next spent);
       }
 
-      unspent_more : (limits : Limits) (start : Start) → HaveStart limits old start → (j next : ℕ) → j < i + 1 → ¬ IsSpentAt limits lines j start next
+      unspent_more : (limits : Limits) (start : SessionStart) → HaveStart limits old start → (j next : ℕ) → j < i + 1 → ¬ IsSpentAt limits lines j start next
       unspent_more limits start have j next below spent = elim (let split : (j < i) ⊎ (j ≡ i) = grind arith in split) [
         | inl less ↦ so.going.unspent limits start have j next less spent
         | inr here ↦ not_spent limits start have next (subst (λ (k : ℕ). IsSpentAt limits lines k start next) here spent)
@@ -241,7 +241,7 @@ module _ (lines : List Line) (i : ℕ) (line : Line) (within : i < length lines)
         (accounts_go tells step line mid new text plays begins (accounts_after_lines (take i lines) a) (account_after_line line (accounts_after_lines (take i lines) a (partition_of line)))
         (so.going.account y begins a each) (on y (begins (partition_of line)) (accounts_after_lines (take i lines) a (partition_of line))))
 
-    pub going_more : ((next : ℕ) → step ≡ Spent next → ⊥) → plays.after.maps ≡ maps_after_line line plays.before.maps → GoesOn plays.before plays.after → Counts line plays.before plays.after
+    pub going_more : ((next : ℕ) → step ≡ Spent next → ⊥) → plays.after.maps ≡ maps_after_line line plays.before.maps → GoesOn plays.before plays.after → CountsNumbers line plays.before plays.after
         → (tells ≡ true → (b : Beginning) (a : Account) → Stands plays.before b a → Stands plays.after b (account_after_line line a))
         → Going tells lines (i + 1) old new
     going_more other maps goes counts account = record {
@@ -269,16 +269,16 @@ module _ (lines : List Line) (i : ℕ) (line : Line) (within : i < length lines)
 
     -- and its reply written
     pub SoFar-more : (now : Option (List ℕ)) → ((next : ℕ) → step ≡ Spent next → ⊥) → text ≡ text_after line plays.before.maps → plays.after.maps ≡ maps_after_line line plays.before.maps → GoesOn plays.before plays.after
-        → Counts line plays.before plays.after → (tells ≡ true → (b : Beginning) (a : Account) → Stands plays.before b a → Stands plays.after b (account_after_line line a))
-        → Takes then' now text → SoFar tells lines (i + 1) old new before now
+        → CountsNumbers line plays.before plays.after → (tells ≡ true → (b : Beginning) (a : Account) → Stands plays.before b a → Stands plays.after b (account_after_line line a))
+        → TakesAll then' now text → SoFar tells lines (i + 1) old new before now
     SoFar-more now other told maps goes counts account took = record {
       going = going_more other maps goes counts account;
-      text = λ m each. subst (λ (t : List ℕ). Takes before now t) (reply_is m each told) (Takes-append before then' now (replies (take i lines) m) text (so.text m each) took);
+      text = λ m each. subst (λ (t : List ℕ). TakesAll before now t) (reply_is m each told) (Takes-append before then' now (replies (take i lines) m) text (so.text m each) took);
     }
 
     -- the sink failed at its reply
     pub played_untaken : (now : Option (List ℕ)) → ((next : ℕ) → step ≡ Spent next → ⊥) → text ≡ text_after line plays.before.maps → plays.after.maps ≡ maps_after_line line plays.before.maps → GoesOn plays.before plays.after
-        → Counts line plays.before plays.after → (tells ≡ true → (b : Beginning) (a : Account) → Stands plays.before b a → Stands plays.after b (account_after_line line a))
+        → CountsNumbers line plays.before plays.after → (tells ≡ true → (b : Beginning) (a : Account) → Stands plays.before b a → Stands plays.after b (account_after_line line a))
         → TakesFront then' now text → Played tells lines old new before now Sink
     played_untaken now other told maps goes counts account took =
         let going : Going tells lines (i + 1) old new = going_more other maps goes counts account in
@@ -300,7 +300,7 @@ module _ (lines : List Line) (i : ℕ) (line : Line) (within : i < length lines)
         }
 
     -- there was no memory for its reply
-    pub played_no_reply : ((next : ℕ) → step ≡ Spent next → ⊥) → plays.after.maps ≡ maps_after_line line plays.before.maps → GoesOn plays.before plays.after → Counts line plays.before plays.after
+    pub played_no_reply : ((next : ℕ) → step ≡ Spent next → ⊥) → plays.after.maps ≡ maps_after_line line plays.before.maps → GoesOn plays.before plays.after → CountsNumbers line plays.before plays.after
         → (tells ≡ true → (b : Beginning) (a : Account) → Stands plays.before b a → Stands plays.after b (account_after_line line a))
         → Played tells lines old new before then' Memory
     played_no_reply other maps goes counts account =
@@ -394,7 +394,7 @@ played_whole tells lines i old new before now so end =
       within = omega arith;
       all = λ _. refl;
       replied = length lines;
-      text = λ m each. subst (λ (ls : List Line). Takes before now (replies ls m)) all (so.text m each);
+      text = λ m each. subst (λ (ls : List Line). TakesAll before now (replies ls m)) all (so.text m each);
       numbers = so.going.numbers;
       spends = λ limits start have. record {
         unspent = λ j next below. so.going.unspent limits start have j next (omega (arith, below, end));

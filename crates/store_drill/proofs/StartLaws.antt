@@ -17,7 +17,7 @@ use Rattle.script_text.specs.declared.line.Mode.TheVariants.{Play}
 use Rattle.script_text.specs.Lines.{IsLine, partition_of}
 use Rattle.script_text.specs.Replies.{changed_at, maps_after_line, maps_after_lines, maps_after_one}
 use Rattle.restart_load.specs.Writers.{IsNextChunk, IsWriterChunk}
-use Rattle.store_drill.specs.Numbers.{IsSpentAt, Numbers, Start, numbers_after, numbers_after_lines, numbers_after_one, numbers_at, spent_for, written_for}
+use Rattle.store_drill.specs.Numbers.{IsSpentAt, Numbers, SessionStart, numbers_after, numbers_after_lines, numbers_after_one, numbers_at, spent_for, written_for}
 use Rattle.store_drill.specs.Sessions.{IsStart}
 use Rattle.store_drill.proofs.StepLaws.{of_partition}
 
@@ -43,12 +43,12 @@ abbrev SameBelow : {A : Type 0} → ℕ → (ℕ → A) → (ℕ → A) → Type
 SameBelow partitions f g = (p : ℕ) → p < partitions → f p ≡ g p
 
 -- two starts with the same maps and numbers
-record SameStart (partitions : ℕ) (a b : Start) : Type 0 where
+record SameStart (partitions : ℕ) (a b : SessionStart) : Type 0 where
   pub maps : SameBelow partitions a.maps b.maps
   pub next : SameBelow partitions a.next b.next
   pub next_chunk : SameBelow partitions a.next_chunk b.next_chunk
 
-one_start : (image : Image) (partitions : ℕ) (a b : Start) → IsStart image partitions a → IsStart image partitions b → SameStart partitions a b
+one_start : (image : Image) (partitions : ℕ) (a b : SessionStart) → IsStart image partitions a → IsStart image partitions b → SameStart partitions a b
 one_start image partitions a b x y = record {
   maps = λ p below. one_restart_of (Fact image p) (a.maps p) (b.maps p) (x.maps.restartable.parts p below).agree (x.maps.each p below) (y.maps.each p below);
   next = λ p below. one_next (Fact image p) (a.next p) (b.next p) (x.next p below) (y.next p below);
@@ -101,7 +101,7 @@ numbers_same limits partitions (line ∷ lines) m k a b all maps same =
     (ap (λ (n : Numbers). numbers_after limits n (written_for line (m p))) (same p all.0) ∙ ap (λ (e : Entries). numbers_after limits (b p) (written_for line e)) (maps p all.0)))
 
 -- a line that needs a number which none can have does so over each of them
-spent_same : (limits : Limits) (partitions : ℕ) (lines : List Line) (count : ℕ) (a b : Start) (next : ℕ) → AreFor partitions lines → SameStart partitions a b
+spent_same : (limits : Limits) (partitions : ℕ) (lines : List Line) (count : ℕ) (a b : SessionStart) (next : ℕ) → AreFor partitions lines → SameStart partitions a b
     → IsSpentAt limits lines count a next → IsSpentAt limits lines count b next
 spent_same limits partitions lines count a b next all same spent =
     let p : ℕ = partition_of spent.line in
@@ -121,7 +121,7 @@ spent_same limits partitions lines count a b next all same spent =
     }
 
 -- and so over each start of the folder
-pub one_spending : (image : Image) (limits : Limits) (lines : List Line) (count : ℕ) (a b : Start) (next : ℕ) → All (IsLine Play limits.partitions) lines
+pub one_spending : (image : Image) (limits : Limits) (lines : List Line) (count : ℕ) (a b : SessionStart) (next : ℕ) → All (IsLine Play limits.partitions) lines
     → IsStart image limits.partitions a → IsStart image limits.partitions b → IsSpentAt limits lines count a next → IsSpentAt limits lines count b next
 one_spending image limits lines count a b next all x y spent =
     spent_same limits limits.partitions lines count a b next (are_for Play limits.partitions lines all) (one_start image limits.partitions a b x y) spent

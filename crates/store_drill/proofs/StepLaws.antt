@@ -37,7 +37,7 @@ use Rattle.store_drill.specs.declared.step.Step.{Step}
 use Rattle.store_drill.specs.declared.step.Step.TheVariants.{Answered, NoReply, NoMemory, DiskFailed, Spent}
 use Rattle.store_drill.specs.Accounts.{account_after_line, account_after_refused}
 use Rattle.store_drill.specs.Numbers.{Numbers, Piece, fits_in, has_place, numbers_after, numbers_with, piece_of, spent_for, with_size, writes_line, written_for}
-use Rattle.store_drill.specs.Playing.{Counts, FitsRecord, GoesOn, Plays, needed, step_of}
+use Rattle.store_drill.specs.Playing.{CountsNumbers, FitsRecord, GoesOn, Plays, needed, step_of}
 use Rattle.store_drill.specs.Writers.{numbers_of}
 
 -- ---- options and counts
@@ -144,7 +144,7 @@ numbers_written s t r writes =
     (λ c. sizes_with s.stock t.stock class size writes.fills.stock.others sized' c ∙ ap (λ (n : ℕ). with_size (numbers_of s).sizes class n c) (sym size_is))
 
 -- nothing was written
-pub counts_same : (line : Line) (s t : Standing) → writes_line line s.maps ≡ false → t.limits ≡ s.limits → numbers_of t ≡ numbers_of s → Counts line s t
+pub counts_same : (line : Line) (s t : Standing) → writes_line line s.maps ≡ false → t.limits ≡ s.limits → numbers_of t ≡ numbers_of s → CountsNumbers line s t
 counts_same line s t unwritten limits same = record {
   limits = limits;
   numbers = same ∙ ap (numbers_after s.limits (numbers_of s)) (sym (nothing_for line s.maps unwritten));
@@ -171,7 +171,7 @@ numbers_synced s t syncs =
 -- it was answered, and its reply printed where there was memory for it
 pub plays_answered : (tells : Bool) (line : Line) (s t : Standing) (text : List ℕ) (step : Step)
     → (step ≡ Answered) ⊎ (step ≡ NoReply) → (step ≡ Answered → text ≡ text_after line s.maps)
-    → t.maps ≡ maps_after_line line s.maps → GoesOn s t → Counts line s t → needed line s ≡ None → t.partition ≡ s.partition
+    → t.maps ≡ maps_after_line line s.maps → GoesOn s t → CountsNumbers line s t → needed line s ≡ None → t.partition ≡ s.partition
     → (tells ≡ true → (b : Beginning) (a : Account) → Stands s b a → Stands t b (account_after_line line a)) → Plays tells step line s t text
 plays_answered tells line s t text Answered only told maps goes counts none partition account =
     record { replies = (told refl, maps, goes, counts); spent = λ next is. absurd (none-some next (sym none ∙ is)); partition = partition; account = account }
@@ -196,7 +196,7 @@ module _ (s t : Standing) (r : Record) where
 
   -- the line's record is this one
   module _ (line : Line) (same : writes_line line s.maps ≡ is_written (command_of r) s.maps) (gives : piece_of line ≡ Some (piece_for (class_of_record r) (length (spelling r)))) where
-    pub done_counts : Done s t r → Counts line s t
+    pub done_counts : Done s t r → CountsNumbers line s t
     done_counts (inl done) = record {
       limits = done.2.notes.limits;
       numbers =
@@ -213,7 +213,7 @@ module _ (s t : Standing) (r : Record) where
 pub goes_synced : (s t : Standing) → t.halted ≡ s.halted → Syncs s t → GoesOn s t
 goes_synced s t running syncs = record { running = running; whole = syncs.lost }
 
-pub counts_synced : (p : Partition) (s t : Standing) → Syncs s t → Counts (Sync p) s t
+pub counts_synced : (p : Partition) (s t : Standing) → Syncs s t → CountsNumbers (Sync p) s t
 counts_synced p s t syncs = counts_same (Sync p) s t refl syncs.limits (numbers_synced s t syncs)
 
 -- ---- refused

@@ -2,7 +2,7 @@
 use Rattle.std.specs.Prelude.{◌≡◌, ◌⊎◌, ℕ, ◌≤◌, Bool, true, List, length, map, take, Option}
 use Rattle.std.specs.List.{flat_map}
 use Rattle.hr_base.specs.Entries.{Entries}
-use Rattle.hr_edges.specs.Edges.{Takes, TakesFront}
+use Rattle.hr_edges.specs.Edges.{TakesAll, TakesFront}
 use Rattle.dir_files.specs.Images.{KeepsImages, read_of}
 use Rattle.crash_law.specs.Restarts.{AllRestart}
 use Rattle.script_text.specs.Dumps.{dump_lines, entry_text}
@@ -17,8 +17,8 @@ flat lines = flat_map (λ line. line) lines
 -- What was written of these lines: all of them; whole ones from the first on, where memory was wanting; or a front of
 -- them, where the sink failed.
 abbrev pub DumpAt : Ended → List (List ℕ) → Option (List ℕ) → Option (List ℕ) → Type 0
-DumpAt Whole lines old new = Takes old new (flat lines)
-DumpAt Memory lines old new = (count : ℕ) × (count ≤ length lines) × Takes old new (flat (take count lines))
+DumpAt Whole lines old new = TakesAll old new (flat lines)
+DumpAt Memory lines old new = (count : ℕ) × (count ≤ length lines) × TakesAll old new (flat (take count lines))
 DumpAt Sink lines old new = TakesFront old new (flat lines)
 DumpAt Disk lines old new = ⊥
 DumpAt (Load refusal) lines old new = ⊥

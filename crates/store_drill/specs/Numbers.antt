@@ -102,19 +102,19 @@ numbers_after_lines limits [] maps numbers = numbers
 numbers_after_lines limits (line ∷ lines) maps numbers = numbers_after_lines limits lines (maps_after_one line maps) (numbers_after_one limits line maps numbers)
 
 -- what each partition begins with: its maps, and the numbers of its next record and of its next chunk
-pub record Start : Type 0 where
+pub record SessionStart : Type 0 where
   pub maps : ℕ → Entries
   pub next : ℕ → ℕ
   pub next_chunk : ℕ → ℕ
 
 -- the same numbers; no chunk that was found takes records
-abbrev pub numbers_at : Start → ℕ → Numbers
+abbrev pub numbers_at : SessionStart → ℕ → Numbers
 numbers_at start p = record { next = start.next p; next_chunk = start.next_chunk p; sizes = λ class. None }
 
 -- ---- numbers that none can have
 
 -- After so many lines the next one is to be written, and needs this number, which none can have.
-pub record IsSpentAt (limits : Limits) (lines : List Line) (count : ℕ) (start : Start) (next : ℕ) : Type 0 where
+pub record IsSpentAt (limits : Limits) (lines : List Line) (count : ℕ) (start : SessionStart) (next : ℕ) : Type 0 where
   pub line : Line
   pub there : slice_get lines count ≡ Some line
   pub needs : spent_for limits (numbers_after_lines limits (take count lines) start.maps (numbers_at start) (partition_of line))
@@ -122,7 +122,7 @@ pub record IsSpentAt (limits : Limits) (lines : List Line) (count : ℕ) (start 
 
 -- A session answered so many lines, and wrote so many replies. None of the lines needed such a number; it ended for want of
 -- one exactly where the next line needs it, unless memory or the sink failed at the reply before.
-pub record SpendsAt (limits : Limits) (lines : List Line) (count replied : ℕ) (start : Start) (ended : Ended) : Type 0 where
+pub record SpendsAt (limits : Limits) (lines : List Line) (count replied : ℕ) (start : SessionStart) (ended : Ended) : Type 0 where
   pub unspent : (i next : ℕ) → i < count → ¬ IsSpentAt limits lines i start next
   pub spent : (next : ℕ) → ended ≡ Spent next → IsSpentAt limits lines count start next
   pub told : (next : ℕ) → IsSpentAt limits lines count start next → (ended ≡ Spent next) ⊎ (((ended ≡ Sink) ⊎ (ended ≡ Memory)) × (count ≡ replied + 1))

@@ -20,9 +20,9 @@ use Rattle.restart_load.specs.Writers.{EachIs}
 use Rattle.store_drill.specs.declared.step.Step.{Step}
 use Rattle.store_drill.specs.declared.step.Step.TheVariants.{Answered, NoReply, NoMemory, DiskFailed, Spent}
 use Rattle.store_drill.specs.Accounts.{account_after_line, account_after_refused, accounts_at}
-use Rattle.store_drill.specs.Numbers.{IsEnd, SpendsAt, Start, numbers_after, spent_for, written_for}
+use Rattle.store_drill.specs.Numbers.{IsEnd, SpendsAt, SessionStart, numbers_after, spent_for, written_for}
 use Rattle.store_drill.specs.Sessions.{TextAt}
-use Rattle.store_drill.specs.Writers.{EachFits, HasMaps, HasNumber, HaveStart, IsLimited, IsWhole, StandsAt, numbers_of}
+use Rattle.store_drill.specs.Writers.{EachFits, HasMaps, HasNumber, HaveStart, IsLimited, LostNothing, StandsAt, numbers_of}
 
 -- ---- one line
 
@@ -44,7 +44,7 @@ abbrev pub needed : Line → Standing → Option ℕ
 needed line s = spent_for s.limits (numbers_of s) (written_for line s.maps)
 
 -- numbers were used up where its record was written
-pub record Counts (line : Line) (s t : Standing) : Type 0 where
+pub record CountsNumbers (line : Line) (s t : Standing) : Type 0 where
   pub limits : t.limits ≡ s.limits
   pub numbers : numbers_of t ≡ numbers_after s.limits (numbers_of s) (written_for line s.maps)
 
@@ -57,8 +57,8 @@ step_of (refusal.Spent next) = Spent next
 
 -- what is replied, and the maps and numbers after it
 abbrev pub Replies : Step → Line → Standing → Standing → List ℕ → Type 0
-Replies Answered line s t text = (text ≡ text_after line s.maps) × (t.maps ≡ maps_after_line line s.maps) × GoesOn s t × Counts line s t
-Replies NoReply line s t text = (t.maps ≡ maps_after_line line s.maps) × GoesOn s t × Counts line s t
+Replies Answered line s t text = (text ≡ text_after line s.maps) × (t.maps ≡ maps_after_line line s.maps) × GoesOn s t × CountsNumbers line s t
+Replies NoReply line s t text = (t.maps ≡ maps_after_line line s.maps) × GoesOn s t × CountsNumbers line s t
 Replies NoMemory line s t text = (t.maps ≡ s.maps) × GoesOn s t
 Replies DiskFailed line s t text = (t.maps ≡ s.maps) × Rose s.faults t.faults
 Replies (Spent next) line s t text = (needed line s ≡ Some next) × (t ≡ s)
@@ -99,9 +99,9 @@ pub record Played (tells : Bool) (lines : List Line) (old new : List Standing) (
   pub text : (maps : ℕ → Entries) → EachFits HasMaps old maps → TextAt ended lines count replied maps before now
   pub numbers : EachFits HasNumber old (λ p. p) → EachFits HasNumber new (λ p. p)
   -- no answered line needed a number that none can have, and want of one ended it exactly where the next line needs it
-  pub spends : (limits : Limits) (start : Start) → HaveStart limits old start → SpendsAt limits lines count replied start ended
+  pub spends : (limits : Limits) (start : SessionStart) → HaveStart limits old start → SpendsAt limits lines count replied start ended
   pub number : EachIs IsLimited old → (next : ℕ) → ended ≡ ends.Spent next → IsEnd next
   -- unless the disk refused a line, no record lacks bytes
-  pub whole : (ended ≡ Disk → ⊥) → EachIs IsWhole new
+  pub whole : (ended ≡ Disk → ⊥) → EachIs LostNothing new
   pub account : tells ≡ true → (begins : ℕ → Beginning) (accounts : ℕ → Account) → EachFits (StandsAt begins) old accounts
       → EachFits (StandsAt begins) new (accounts_at ended lines count accounts)

@@ -2,7 +2,7 @@
 use Rattle.std.specs.Prelude.{◌≡◌, ◌⊎◌, ℕ, ◌+◌, ◌<◌, ◌≤◌, Bool, true, List, length, take, Option, ⊤}
 use Rattle.hr_base.specs.declared.limits.Limits.{Limits}
 use Rattle.hr_base.specs.Entries.{Entries}
-use Rattle.hr_edges.specs.Edges.{Takes, TakesAtLeast}
+use Rattle.hr_edges.specs.Edges.{TakesAll, TakesAtLeast}
 use Rattle.hr_edges.specs.declared.sink.Sink.{Ghosts as SinkGhosts}
 use Rattle.dir_files.specs.declared.folder.Folder.{Ghosts as FolderGhosts}
 use Rattle.dir_files.specs.Images.{Image, KeepsImages, read_of}
@@ -19,7 +19,7 @@ use Rattle.restart_load.specs.declared.refusal.RestartRefusal.{RestartRefusal}
 use Rattle.restart_load.specs.declared.ended.Ended.{Ended}
 use Rattle.restart_load.specs.declared.ended.Ended.TheVariants.{Whole, Sink, Disk, Memory, Load, Spent}
 use Rattle.store_drill.specs.Accounts.{accounts_at}
-use Rattle.store_drill.specs.Numbers.{IsEnd, SpendsAt, Start}
+use Rattle.store_drill.specs.Numbers.{IsEnd, SpendsAt, SessionStart}
 
 -- ---- the outside of a session
 
@@ -36,7 +36,7 @@ outside folder sink f k = record { port = folder.port f; faults = folder.count f
 
 -- The image restarts, each of so many partitions to its maps. Its first number is the least one above those of all its
 -- records, and its first chunk has the least one above those of its chunks that a writer began.
-pub record IsStart (image : Image) (partitions : ℕ) (start : Start) : Type 0 where
+pub record IsStart (image : Image) (partitions : ℕ) (start : SessionStart) : Type 0 where
   pub maps : AllRestart image partitions start.maps
   pub next : (p : ℕ) → p < partitions → IsNext (Fact image p) (start.next p)
   pub next_chunk : (p : ℕ) → p < partitions → IsNextChunk image p (start.next_chunk p)
@@ -47,11 +47,11 @@ pub record IsStart (image : Image) (partitions : ℕ) (start : Start) : Type 0 w
 -- that were answered. Where the sink failed, it took all but the last one, and a front of that; where there was no memory
 -- for the last one, it is missing. So many replies were written whole.
 abbrev pub TextAt : Ended → List Line → ℕ → ℕ → (ℕ → Entries) → Option (List ℕ) → Option (List ℕ) → Type 0
-TextAt Whole lines count replied maps old new = Takes old new (replies lines maps)
-TextAt Disk lines count replied maps old new = (replied ≡ count) × Takes old new (replies (take count lines) maps)
-TextAt (Spent next) lines count replied maps old new = (replied ≡ count) × Takes old new (replies (take count lines) maps)
+TextAt Whole lines count replied maps old new = TakesAll old new (replies lines maps)
+TextAt Disk lines count replied maps old new = (replied ≡ count) × TakesAll old new (replies (take count lines) maps)
+TextAt (Spent next) lines count replied maps old new = (replied ≡ count) × TakesAll old new (replies (take count lines) maps)
 TextAt Sink lines count replied maps old new = (count ≡ replied + 1) × TakesAtLeast (length (replies (take replied lines) maps)) old new (replies (take count lines) maps)
-TextAt Memory lines count replied maps old new = (replied ≤ count) × (count ≤ replied + 1) × Takes old new (replies (take replied lines) maps)
+TextAt Memory lines count replied maps old new = (replied ≤ count) × (count ≤ replied + 1) × TakesAll old new (replies (take replied lines) maps)
 TextAt (Load refusal) lines count replied maps old new = ⊥
 
 -- ---- what it leaves
@@ -76,7 +76,7 @@ pub record NotBegun (tells : Bool) (partitions : ℕ) (old new : Outside) (ended
 -- The folder was restarted with so many partitions, and the session began with its lines.
 pub record Session (tells : Bool) (limits : Limits) (lines : List Line) (old new : Outside) (ended : Ended) : Type 0 where
   -- what each partition began with, which is what the folder restarts to
-  pub start : Start
+  pub start : SessionStart
   pub started : tells ≡ true → IsStart (read_of old.port) limits.partitions start
   -- so many lines were answered, all of them where it was done to its end
   pub count : ℕ

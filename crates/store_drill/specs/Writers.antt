@@ -10,7 +10,7 @@ use Rattle.crash_law.specs.Accounts.{Account}
 use Rattle.writer_files.specs.Stocks.{files_of, lane_of}
 use Rattle.partition_writer.specs.Standing.{Standing, Beginning, Stands}
 use Rattle.restart_load.specs.Writers.{EachIs, HasLimits}
-use Rattle.store_drill.specs.Numbers.{Numbers, Start, numbers_at}
+use Rattle.store_drill.specs.Numbers.{Numbers, SessionStart, numbers_at}
 
 -- ---- all writers
 
@@ -38,7 +38,7 @@ abbrev pub HasNumbers : ℕ → Numbers → Standing → Type 0
 HasNumbers p numbers s = numbers_of s ≡ numbers
 
 -- the writers have these limits, maps and numbers
-pub record HaveStart (limits : Limits) (writers : List Standing) (start : Start) : Type 0 where
+pub record HaveStart (limits : Limits) (writers : List Standing) (start : SessionStart) : Type 0 where
   pub limited : EachIs (HasLimits limits) writers
   pub maps : EachFits HasMaps writers start.maps
   pub numbers : EachFits HasNumbers writers (numbers_at start)
@@ -60,8 +60,8 @@ abbrev pub IsRunning : Standing → Type 0
 IsRunning s = s.halted ≡ None
 
 -- no record of its own lacks bytes
-abbrev pub IsWhole : Standing → Type 0
-IsWhole s = s.lost ≡ false
+abbrev pub LostNothing : Standing → Type 0
+LostNothing s = s.lost ≡ false
 
 -- the disk refused it no call, so that no record of its own lacks bytes
 pub record Runs (s : Standing) : Type 0 where

@@ -15,12 +15,11 @@ ghost use Rattle.store_drill.specs.Dumping.{DumpAt, Dumped, Wrote, lines_of_entr
 ghost use Rattle.store_drill.specs.Sessions.{outside};
 ghost use Rattle.store_drill.specs.Writers.{EachFits, HasMaps, HasNumber};
 
-use crate::output::write_all;
 use crate::writers::close_writers;
 use bytes::Bytes;
 use dir_files::Folder;
 use hr_base::{Limits, Partition};
-use hr_edges::Sink;
+use hr_edges::{Sink, write_all};
 use partition_writer::Writer;
 use restart_load::{Ended, restart};
 use script_text::print_entry;

@@ -4,14 +4,10 @@
 mod dumping;
 pub mod laws;
 mod lines;
-mod output;
 mod session;
 mod step;
-#[cfg(test)]
-mod tests;
 mod writers;
 
 pub use dumping::dump;
-pub use output::write_all;
 pub use restart_load::{Ended, RestartRefusal};
 pub use session::play;

@@ -7,6 +7,7 @@ ghost use Rattle.script_text.specs.declared.line.Line.{Line};
 ghost use Rattle.script_text.specs.declared.line.Mode.TheVariants.{Play};
 ghost use Rattle.script_text.specs.Lines.{IsLine, partition_of};
 ghost use Rattle.script_text.specs.Replies.{reply_text};
+ghost use Rattle.script_text.specs.Scripts.{line_of_view};
 ghost use Rattle.store_drill.specs.declared.step.Step.{Step};
 ghost use Rattle.store_drill.specs.Playing.{FitsRecord, Plays, PlaysAmong, step_of};
 ghost use Rattle.restart_load.specs.Writers.{EachIs, standings};
@@ -15,7 +16,7 @@ ghost use Rattle.store_drill.specs.Writers.{IsRunning};
 use dir_files::Folder;
 use hr_base::Partition;
 use partition_writer::{WriteRefusal, Writer};
-use script_text::{Line, Reply, print_reply};
+use script_text::{LineView, Reply, print_reply};
 
 /// What became of a line.
 #[derive(Clone, Copy, Debug, PartialEq, Eq)]
@@ -143,45 +144,49 @@ fn answer_sync<F: Folder>(writer: &mut Writer<F>, p: Partition, text: &mut Vec<u
 }
 
 /// Answers a line on the writer of its partition; its reply replaces the text.
-fn answer_on<F: Folder>(writer: &mut Writer<F>, line: &Line, text: &mut Vec<u8>) -> Step
-    requires fits { FitsRecord line.now }
+fn answer_on<F: Folder>(writer: &mut Writer<F>, line: &LineView, text: &mut Vec<u8>) -> Step
+    requires fits { FitsRecord (line_of_view line.now) }
     requires running { IsRunning (standing writer.old) }
-    ensures { Plays F.tells result line.now (standing writer.old) (standing writer.new) text.new.items }
+    ensures { Plays F.tells result (line_of_view line.now) (standing writer.old) (standing writer.new) text.new.items }
 {
     text.clear();
     match line {
-        Line::Put {
+        LineView::Put {
             p,
             prefix,
             key,
             value,
-        } => answer_put(writer, *p, *prefix, key.as_slice(), value.as_slice(), text),
-        Line::Remove { p, prefix, key } => answer_remove(writer, *p, *prefix, key.as_slice(), text),
-        Line::Clear { p, prefix } => answer_clear(writer, *p, *prefix, text),
-        Line::Get { p, prefix, key } => answer_get(writer, *p, *prefix, key.as_slice(), text),
-        Line::Sync { p } => answer_sync(writer, *p, text),
+        } => answer_put(writer, *p, *prefix, *key, *value, text),
+        LineView::Remove { p, prefix, key } => answer_remove(writer, *p, *prefix, *key, text),
+        LineView::Clear { p, prefix } => answer_clear(writer, *p, *prefix, text),
+        LineView::Get { p, prefix, key } => answer_get(writer, *p, *prefix, *key, text),
+        LineView::Sync { p } => answer_sync(writer, *p, text),
     }
 }
 
 /// Which writer a line is for, counted from 0.
-fn place(line: &Line) -> usize
-    ensures { result ≡ partition_of line.now }
+fn place(line: &LineView) -> usize
+    ensures { result ≡ partition_of (line_of_view line.now) }
 {
     let p = match line {
-        Line::Put { p, .. }
-        | Line::Remove { p, .. }
-        | Line::Clear { p, .. }
-        | Line::Get { p, .. }
-        | Line::Sync { p } => *p,
+        LineView::Put { p, .. }
+        | LineView::Remove { p, .. }
+        | LineView::Clear { p, .. }
+        | LineView::Get { p, .. }
+        | LineView::Sync { p } => *p,
     };
     p.0 as usize
 }
 
 /// Answers a line, and leaves the writers of all other partitions alone; its reply replaces the text.
-pub(crate) fn answer<F: Folder>(writers: &mut [Writer<F>], line: &Line, text: &mut Vec<u8>) -> Step
-    requires valid { IsLine Play (length writers.old) line.now }
+pub(crate) fn answer<F: Folder>(
+    writers: &mut [Writer<F>],
+    line: &LineView,
+    text: &mut Vec<u8>,
+) -> Step
+    requires valid { IsLine Play (length writers.old) (line_of_view line.now) }
     requires running { EachIs IsRunning (standings writers.old) }
-    ensures { PlaysAmong F.tells result line.now (standings writers.old) (standings writers.new) text.new.items }
+    ensures { PlaysAmong F.tells result (line_of_view line.now) (standings writers.old) (standings writers.new) text.new.items }
 {
     let at = place(line);
     answer_on(&mut writers[at], line, text)

@@ -4,7 +4,7 @@ ghost use Rattle.std.specs.Prelude.{◌≡◌, true, false, IfOk, IsOk, length};
 ghost use Rattle.hr_base.specs.declared.limits.TheConstants.{MAX_CHUNK_LIMIT};
 ghost use Rattle.hr_base.specs.Names.{IsChunkName, class_of_kind};
 ghost use Rattle.dir_files.specs.Faults.{is_fault};
-ghost use Rattle.dir_files.specs.PortCalls.{Counts, GivesFile, LeavesPort};
+ghost use Rattle.dir_files.specs.PortCalls.{CountsCall, GivesFile, LeavesPort};
 ghost use Rattle.dir_files.specs.Ports.{IsFreeName};
 ghost use Rattle.value_chunk.specs.Chunks.{fits, IsChunk, IsOneRecord};
 ghost use Rattle.value_chunk.specs.Calls.{begun, Appends, BeginsAt, IsTold, Marks, SyncsFile};
@@ -41,7 +41,7 @@ impl<F: Folder> TombFilling<F> {
         requires free { F.tells ≡ true → IsFreeName (F.port port.old) name }
         ensures begun { IfOk result (IsTold F.tells (begun name)) }
         ensures port { F.tells ≡ true → BeginsAt result (F.port port.old) (F.port port.new) name }
-        ensures counts { Counts ⟦<F as Folder>⟧ (is_fault result) port.old port.new }
+        ensures counts { CountsCall ⟦<F as Folder>⟧ (is_fault result) port.old port.new }
     {
         let filling = Filling::begin_of_any_class(port, name)?;
         Ok(TombFilling { filling })

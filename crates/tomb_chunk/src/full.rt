@@ -2,9 +2,9 @@
 
 ghost use Rattle.std.specs.Prelude.{◌≡◌, true, false, IsOk, MatchResult};
 ghost use Rattle.dir_files.specs.Faults.{is_disk, is_fault};
-ghost use Rattle.dir_files.specs.PortCalls.{Counts, GivesFile, LeavesPort};
+ghost use Rattle.dir_files.specs.PortCalls.{CountsCall, GivesFile, LeavesPort};
 ghost use Rattle.dir_files.specs.Ports.{can_be_fixed};
-ghost use Rattle.value_chunk.specs.Calls.{IsKept, Seals, SealsAt, SyncsFile};
+ghost use Rattle.value_chunk.specs.Calls.{IsChunkKept, Seals, SealsAt, SyncsFile};
 ghost use Rattle.tomb_chunk.specs.Tombs.{is_tomb_name};
 
 use crate::sealed::TombSealed;
@@ -57,12 +57,12 @@ impl<F: Folder> TombFull<F> {
     pub fn seal(self, port: &mut F) -> Result<TombSealed<F>, TombNotSealed<F>>
         requires { F.tells ≡ true → can_be_fixed (F.port port.old) self.name ≡ true }
         ensures sealed { MatchResult result
-            (λ sealed. Seals F.tells self sealed) (λ refused. IsKept F.tells self refused.kept) }
+            (λ sealed. Seals F.tells self sealed) (λ refused. IsChunkKept F.tells self refused.kept) }
         ensures idle { F.tells ≡ true → self.unsynced ≡ false → (F.port port.old).fixed self.name ≡ true
             → IsOk result × (port.new ≡ port.old) }
         ensures port { F.tells ≡ true → SealsAt result (F.port port.old) (F.port port.new) self.name }
-        ensures counts { MatchResult result (λ _. Counts ⟦<F as Folder>⟧ false port.old port.new)
-            (λ refused. Counts ⟦<F as Folder>⟧ (is_disk refused.why) port.old port.new) }
+        ensures counts { MatchResult result (λ _. CountsCall ⟦<F as Folder>⟧ false port.old port.new)
+            (λ refused. CountsCall ⟦<F as Folder>⟧ (is_disk refused.why) port.old port.new) }
     {
         let TombFull { full } = self;
         match full.seal(port) {

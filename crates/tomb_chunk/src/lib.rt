@@ -9,6 +9,3 @@ mod sealed;
 pub use filling::TombFilling;
 pub use full::{TombFull, TombNotSealed};
 pub use sealed::TombSealed;
-
-#[cfg(test)]
-mod tests;

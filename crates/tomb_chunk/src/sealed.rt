@@ -1,6 +1,8 @@
 //! A chunk of tombstones or of prefix tombstones whose bytes and name a crash keeps.
 
-ghost use Rattle.std.specs.Prelude.{◌≡◌, true, Some};
+ghost use Rattle.std.specs.Prelude.{◌≡◌, ◌≤◌, true, Some};
+ghost use Rattle.hr_base.specs.declared.limits.TheConstants.{MAX_CHUNK_LIMIT};
+ghost use Rattle.hr_base.specs.Names.{TellsNoOther};
 ghost use Rattle.dir_files.specs.PortCalls.{GivesFile};
 ghost use Rattle.value_chunk.specs.Chunks.{IsSealed};
 ghost use Rattle.tomb_chunk.specs.Tombs.{is_tomb_name};
@@ -40,6 +42,8 @@ impl<F: Folder> TombSealed<F> {
     pub fn into_file(self) -> (ChunkName, F::File, u64)
         ensures name { result.0 ≡ self.name }
         ensures size { result.2 ≡ self.size }
+        ensures within { result.2 ≤ MAX_CHUNK_LIMIT }
+        ensures told { TellsNoOther (F.File.name result.1) self.name }
         ensures file { F.tells ≡ true → (F.File.name result.1 ≡ Some self.name) × (F.state result.1 ≡ self.file) }
         ensures sealed { F.tells ≡ true → IsSealed self }
     {

@@ -27,8 +27,8 @@ abbrev pub grown : Chunk → List ℕ → Chunk
 grown chunk bytes = record { name = chunk.name; file = with_bytes chunk.file bytes; size = chunk.size + length bytes; unsynced = true; torn = chunk.torn }
 
 -- a crash keeps all bytes
-abbrev pub synced : Chunk → Chunk
-synced chunk = record { name = chunk.name; file = synced_file chunk.file; size = chunk.size; unsynced = false; torn = chunk.torn }
+abbrev pub synced_chunk : Chunk → Chunk
+synced_chunk chunk = record { name = chunk.name; file = synced_file chunk.file; size = chunk.size; unsynced = false; torn = chunk.torn }
 
 -- a crash keeps the name
 abbrev pub marked : Chunk → Chunk
@@ -52,7 +52,7 @@ Appends tells (Err Memory) old new bytes = IsTold tells old new
 
 -- the file was to be synced
 abbrev pub SyncsFile : Bool → Result (Unit {0}) FolderRefusal → Chunk → Chunk → Type 0
-SyncsFile tells (Ok done) old new = IsTold tells (synced old) new
+SyncsFile tells (Ok done) old new = IsTold tells (synced_chunk old) new
 SyncsFile tells (Err refusal) old new = IsTold tells old new
 
 -- the port was asked whether the name is fixed
@@ -61,14 +61,14 @@ Marks tells answer old new = IsTold tells (if answer then marked old else old) n
 
 -- the chunk was sealed
 abbrev pub Seals : Bool → Chunk → Chunk → Type 0
-Seals tells old new = IsTold tells (marked (synced old)) new
+Seals tells old new = IsTold tells (marked (synced_chunk old)) new
 
 -- it was not sealed: its file may have been synced, and all else is as before
-pub record IsKept (tells : Bool) (old new : Chunk) : Type 0 where
+pub record IsChunkKept (tells : Bool) (old new : Chunk) : Type 0 where
   pub name : new.name ≡ old.name
   pub size : new.size ≡ old.size
   pub torn : new.torn ≡ old.torn
-  pub either : IsTold tells old new ⊎ IsTold tells (synced old) new
+  pub either : IsTold tells old new ⊎ IsTold tells (synced_chunk old) new
 
 -- ---- and of the port
 

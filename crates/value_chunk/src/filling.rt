@@ -3,9 +3,9 @@
 ghost use Rattle.std.specs.Prelude.{◌≡◌, true, false, IfOk, IsOk, Some, length};
 ghost use Rattle.hr_base.specs.declared.limits.TheConstants.{MAX_CHUNK_LIMIT};
 ghost use Rattle.hr_base.specs.declared.name.Class.TheVariants.{Value};
-ghost use Rattle.hr_base.specs.Names.{IsChunkName, class_of_kind};
+ghost use Rattle.hr_base.specs.Names.{IsChunkName, TellsNoOther, class_of_kind};
 ghost use Rattle.dir_files.specs.Faults.{is_fault};
-ghost use Rattle.dir_files.specs.PortCalls.{Counts, GivesFile, LeavesPort};
+ghost use Rattle.dir_files.specs.PortCalls.{CountsCall, GivesFile, LeavesPort};
 ghost use Rattle.dir_files.specs.Ports.{IsFreeName};
 ghost use Rattle.value_chunk.specs.Chunks.{fits, IsChunk, IsOneRecord};
 ghost use Rattle.value_chunk.specs.Calls.{begun, Appends, BeginsAt, IsTold, Marks, SyncsFile};
@@ -29,6 +29,7 @@ pub struct Filling<F: Folder> {
 
 impl<F: Folder> Model for Filling<F> {
     ghost use Rattle.std.specs.Prelude.{◌≡◌, true, Some};
+    ghost use Rattle.hr_base.specs.Names.{TellsNoOther};
     ghost use Rattle.value_chunk.specs.Chunks.{Chunk, IsChunk};
 
     ghost Value = { Chunk };
@@ -36,8 +37,8 @@ impl<F: Folder> Model for Filling<F> {
     ghost view = { λ it.
         record { name = it.name; file = F.state it.file; size = it.size; unsynced = it.unsynced; torn = it.torn } };
 
-    ghost invariant = { λ it. (F.tells ≡ true → F.File.name it.file ≡ Some it.name) × IsChunk F.tells
-        (record { name = it.name; file = F.state it.file; size = it.size; unsynced = it.unsynced; torn = it.torn }) };
+    ghost invariant = { λ it. (TellsNoOther (F.File.name it.file) it.name) × (F.tells ≡ true → F.File.name it.file ≡ Some it.name)
+        × IsChunk F.tells (record { name = it.name; file = F.state it.file; size = it.size; unsynced = it.unsynced; torn = it.torn }) };
 }
 
 impl<F: Folder> Filling<F> {
@@ -48,7 +49,7 @@ impl<F: Folder> Filling<F> {
         requires free { F.tells ≡ true → IsFreeName (F.port port.old) name }
         ensures begun { IfOk result (IsTold F.tells (begun name)) }
         ensures port { F.tells ≡ true → BeginsAt result (F.port port.old) (F.port port.new) name }
-        ensures counts { Counts ⟦<F as Folder>⟧ (is_fault result) port.old port.new }
+        ensures counts { CountsCall ⟦<F as Folder>⟧ (is_fault result) port.old port.new }
     {
         Filling::begin_of_any_class(port, name)
     }
@@ -59,7 +60,7 @@ impl<F: Folder> Filling<F> {
         requires free { F.tells ≡ true → IsFreeName (F.port port.old) name }
         ensures begun { IfOk result (IsTold F.tells (begun name)) }
         ensures port { F.tells ≡ true → BeginsAt result (F.port port.old) (F.port port.new) name }
-        ensures counts { Counts ⟦<F as Folder>⟧ (is_fault result) port.old port.new }
+        ensures counts { CountsCall ⟦<F as Folder>⟧ (is_fault result) port.old port.new }
     {
         let file = port.create(name)?;
         Ok(Filling {
@@ -158,6 +159,7 @@ impl<F: Folder> Filling<F> {
         ensures name { result.0 ≡ self.name }
         ensures size { result.2 ≡ self.size }
         ensures chunk { IsChunk F.tells self }
+        ensures told { TellsNoOther (F.File.name result.1) self.name }
         ensures file { F.tells ≡ true → (F.File.name result.1 ≡ Some self.name) × (F.state result.1 ≡ self.file) }
     {
         let Filling {
@@ -170,6 +172,3 @@ impl<F: Folder> Filling<F> {
         (name, file, size)
     }
 }
-
-#[cfg(test)]
-mod tests;

@@ -2,9 +2,9 @@
 
 ghost use Rattle.std.specs.Prelude.{◌≡◌, true, false, IsOk, MatchResult};
 ghost use Rattle.dir_files.specs.Faults.{is_disk, is_fault};
-ghost use Rattle.dir_files.specs.PortCalls.{Counts, GivesFile, LeavesPort};
+ghost use Rattle.dir_files.specs.PortCalls.{CountsCall, GivesFile, LeavesPort};
 ghost use Rattle.dir_files.specs.Ports.{can_be_fixed};
-ghost use Rattle.value_chunk.specs.Calls.{IsKept, Seals, SealsAt, SyncsFile};
+ghost use Rattle.value_chunk.specs.Calls.{IsChunkKept, Seals, SealsAt, SyncsFile};
 
 use crate::filling::Filling;
 use crate::sealed::Sealed;
@@ -47,12 +47,12 @@ impl<F: Folder> Full<F> {
     pub fn seal(self, port: &mut F) -> Result<Sealed<F>, NotSealed<F>>
         requires { F.tells ≡ true → can_be_fixed (F.port port.old) self.name ≡ true }
         ensures sealed { MatchResult result
-            (λ sealed. Seals F.tells self sealed) (λ refused. IsKept F.tells self refused.kept) }
+            (λ sealed. Seals F.tells self sealed) (λ refused. IsChunkKept F.tells self refused.kept) }
         ensures idle { F.tells ≡ true → self.unsynced ≡ false → (F.port port.old).fixed self.name ≡ true
             → IsOk result × (port.new ≡ port.old) }
         ensures port { F.tells ≡ true → SealsAt result (F.port port.old) (F.port port.new) self.name }
-        ensures counts { MatchResult result (λ _. Counts ⟦<F as Folder>⟧ false port.old port.new)
-            (λ refused. Counts ⟦<F as Folder>⟧ (is_disk refused.why) port.old port.new) }
+        ensures counts { MatchResult result (λ _. CountsCall ⟦<F as Folder>⟧ false port.old port.new)
+            (λ refused. CountsCall ⟦<F as Folder>⟧ (is_disk refused.why) port.old port.new) }
     {
         let Full { mut filling } = self;
         match make_durable(&mut filling, port) {
@@ -77,11 +77,11 @@ impl<F: Folder> Full<F> {
 fn make_durable<F: Folder>(chunk: &mut Filling<F>, port: &mut F) -> Result<(), FolderRefusal>
     requires { F.tells ≡ true → can_be_fixed (F.port port.old) chunk.old.name ≡ true }
     ensures sealed { MatchResult result
-        (λ _. Seals F.tells chunk.old chunk.new) (λ _. IsKept F.tells chunk.old chunk.new) }
+        (λ _. Seals F.tells chunk.old chunk.new) (λ _. IsChunkKept F.tells chunk.old chunk.new) }
     ensures idle { F.tells ≡ true → chunk.old.unsynced ≡ false → (F.port port.old).fixed chunk.old.name ≡ true
         → IsOk result × (port.new ≡ port.old) }
     ensures port { F.tells ≡ true → SealsAt result (F.port port.old) (F.port port.new) chunk.old.name }
-    ensures counts { Counts ⟦<F as Folder>⟧ (is_fault result) port.old port.new }
+    ensures counts { CountsCall ⟦<F as Folder>⟧ (is_fault result) port.old port.new }
 {
     chunk.sync(port)?;
     if chunk.mark(port) {

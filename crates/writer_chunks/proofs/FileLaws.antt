@@ -10,6 +10,7 @@ use Rattle.hr_base.specs.NameTests.{is_name}
 use Rattle.hr_base.proofs.NameTestLaws.{is_name-same, is_name-other}
 use Rattle.dir_files.specs.Files.{FileState, Files, ChangesAt, SameAt, IsFile, KeepsMore, Rises}
 use Rattle.dir_files.specs.Ports.{either_file}
+use Rattle.dir_files.proofs.JoinLaws.{either_alone, rises_same}
 use Rattle.value_chunk.specs.Chunks.{Chunk}
 use Rattle.writer_chunks.specs.Lanes.{file_among}
 
@@ -160,10 +161,6 @@ last_changes cs c d same none = record {
       ∙ sym (file_among-append cs (c ∷ []) other);
 }
 
-either_none : (p : Option FileState) → either_file p None ≡ p
-either_none None = refl
-either_none (Some f) = refl
-
 -- a chunk was added at the end
 pub push_changes : (cs : List Chunk) (d : Chunk) → file_among cs d.name ≡ None → ChangesAt (file_among cs) (file_among (cs ++ d ∷ [])) d.name (Some d.file)
 push_changes cs d none = record {
@@ -174,17 +171,10 @@ push_changes cs d none = record {
   others = λ other differ.
       file_among-append cs (d ∷ []) other
       ∙ ap (λ (p : Option FileState). either_file (file_among cs other) p) (file_among-past d [] other (is_name-other d.name other (λ e. differ (sym e))))
-      ∙ either_none (file_among cs other);
+      ∙ either_alone (file_among cs other);
 }
 
 -- ---- files that rise
-
-pub keeps_same : (f : FileState) → KeepsMore f f
-keeps_same f = record { bytes = refl; front = omega arith; named = λ named. named }
-
-pub rises_same : (p : Option FileState) → Rises p p
-rises_same None = refl
-rises_same (Some f) = keeps_same f
 
 -- the chunk after has the name of the one before, and its file rose
 pub record RisesTo (c d : Chunk) : Type 0 where

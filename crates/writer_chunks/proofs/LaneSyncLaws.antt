@@ -9,11 +9,12 @@ use Rattle.dir_files.specs.declared.folder.FolderRefusal.{FolderRefusal}
 use Rattle.dir_files.specs.Files.{FileState, IsFile, synced_file, KeepsMore}
 use Rattle.dir_files.specs.Ports.{Port, SamePort}
 use Rattle.value_chunk.specs.Chunks.{Chunk}
-use Rattle.value_chunk.specs.Calls.{IsTold, IsKept, synced}
+use Rattle.value_chunk.specs.Calls.{IsTold, IsChunkKept, synced_chunk}
 use Rattle.writer_chunks.specs.Lanes.{LaneState, chunks, file_among, seen, IsLane}
 use Rattle.writer_chunks.specs.PortFits.{FitsPort}
 use Rattle.writer_chunks.specs.LaneCalls.{EachChunk, EachRises, IsSynced, SyncsEach, SyncsLane}
-use Rattle.writer_chunks.proofs.FileLaws.{Follows, RisesTo, keeps_same, rises_among, seen_rises, zip_all, zip_append, zip_same, zip_weaker}
+use Rattle.dir_files.proofs.JoinLaws.{keeps_same}
+use Rattle.writer_chunks.proofs.FileLaws.{Follows, RisesTo, rises_among, seen_rises, zip_all, zip_append, zip_same, zip_weaker}
 use Rattle.writer_chunks.proofs.FitLaws.{fits_follows}
 use Rattle.writer_chunks.proofs.LaneLaws.{SameName, lane_follows}
 use Rattle.writer_chunks.proofs.SyncLaws.{kept_itself, kept_synced}
@@ -43,7 +44,7 @@ rises_to f g same = subst (λ (x : FileState). KeepsMore f x) (sym same) (keeps_
 rises_synced : (f : FileState) → IsFile f → KeepsMore f (synced_file f)
 rises_synced f is_file = record { bytes = refl; front = is_file; named = λ named. named }
 
-kept_rises : (tells : Bool) → tells ≡ true → (c d : Chunk) → IsKept tells c d → IsFile c.file → RisesTo c d
+kept_rises : (tells : Bool) → tells ≡ true → (c d : Chunk) → IsChunkKept tells c d → IsFile c.file → RisesTo c d
 kept_rises tells told c d is is_file = record {
   name = is.name;
   file = elim is.either [
@@ -55,7 +56,7 @@ kept_rises tells told c d is is_file = record {
 synced_is_file : (f : FileState) → IsFile (synced_file f)
 synced_is_file f = omega arith
 
-kept_follows : (tells : Bool) → tells ≡ true → (c d : Chunk) → IsKept tells c d → Follows c d
+kept_follows : (tells : Bool) → tells ≡ true → (c d : Chunk) → IsChunkKept tells c d → Follows c d
 kept_follows tells told c d is = record {
   name = is.name;
   file = λ is_file. elim is.either [
@@ -70,37 +71,37 @@ pub each_zip : (R : Chunk → Chunk → Type 0) (lane after : LaneState) → Eac
 each_zip R lane after each =
     zip_append R lane.full after.full (option_to_list lane.taking) (option_to_list after.taking) each.full each.taking
 
-module _ (tells : Bool) (lane after : LaneState) (each : EachChunk (IsKept tells) lane after) where
+module _ (tells : Bool) (lane after : LaneState) (each : EachChunk (IsChunkKept tells) lane after) where
   pub kept_lane : IsLane lane → IsLane after
   kept_lane is =
       lane_follows lane after each.class
-      (zip_weaker (IsKept tells) SameName (λ c d kept. kept.name) (chunks lane) (chunks after) (each_zip (IsKept tells) lane after each))
-      (zip_all (IsKept tells) (λ c. c.torn ≡ false) (λ d. d.torn ≡ false) (λ c d kept whole. kept.torn ∙ whole) lane.full after.full each.full is.whole)
+      (zip_weaker (IsChunkKept tells) SameName (λ c d kept. kept.name) (chunks lane) (chunks after) (each_zip (IsChunkKept tells) lane after each))
+      (zip_all (IsChunkKept tells) (λ c. c.torn ≡ false) (λ d. d.torn ≡ false) (λ c d kept whole. kept.torn ∙ whole) lane.full after.full each.full is.whole)
       is
 
   pub kept_files : (p q : Port) → tells ≡ true → SamePort p q → FitsPort p lane → EachRises (seen p lane) (seen q after)
   kept_files p q told same fits =
       seen_rises (file_among (chunks lane)) (file_among (chunks after)) p.held q.held
       (rises_among (chunks lane) (chunks after)
-      (zip_with_all (IsKept tells) RisesTo (λ c. IsFile c.file) (kept_rises tells told) (chunks lane) (chunks after) (each_zip (IsKept tells) lane after each) fits.files))
+      (zip_with_all (IsChunkKept tells) RisesTo (λ c. IsFile c.file) (kept_rises tells told) (chunks lane) (chunks after) (each_zip (IsChunkKept tells) lane after each) fits.files))
       same.held
 
   pub kept_fits : (p q : Port) → tells ≡ true → SamePort p q → FitsPort p lane → FitsPort q after
   kept_fits p q told same fits =
       fits_follows p q lane after same each.class
-      (zip_weaker (IsKept tells) Follows (kept_follows tells told) (chunks lane) (chunks after) (each_zip (IsKept tells) lane after each)) (kept_lane fits.lawful) fits
+      (zip_weaker (IsChunkKept tells) Follows (kept_follows tells told) (chunks lane) (chunks after) (each_zip (IsChunkKept tells) lane after each)) (kept_lane fits.lawful) fits
 
 -- ---- a lane that was synced, or in part
 
-pub syncs_kept : (tells : Bool) (r : Result (Unit {0}) FolderRefusal) (lane after : LaneState) → SyncsLane tells r lane after → EachChunk (IsKept tells) lane after
+pub syncs_kept : (tells : Bool) (r : Result (Unit {0}) FolderRefusal) (lane after : LaneState) → SyncsLane tells r lane after → EachChunk (IsChunkKept tells) lane after
 syncs_kept tells (Ok done) lane after each = record {
   class = each.class;
-  full = zip_weaker (λ c d. IsTold tells (synced c) d) (IsKept tells) (kept_synced tells) lane.full after.full each.full;
-  taking = zip_weaker (λ c d. IsTold tells (synced c) d) (IsKept tells) (kept_synced tells) (option_to_list lane.taking) (option_to_list after.taking) each.taking;
+  full = zip_weaker (λ c d. IsTold tells (synced_chunk c) d) (IsChunkKept tells) (kept_synced tells) lane.full after.full each.full;
+  taking = zip_weaker (λ c d. IsTold tells (synced_chunk c) d) (IsChunkKept tells) (kept_synced tells) (option_to_list lane.taking) (option_to_list after.taking) each.taking;
 }
 syncs_kept tells (Err e) lane after each = each
 
-synced_durable : (tells : Bool) (c d : Chunk) → IsTold tells (synced c) d → IsSynced tells d
+synced_durable : (tells : Bool) (c d : Chunk) → IsTold tells (synced_chunk c) d → IsSynced tells d
 synced_durable tells c d is = record {
   unsynced = is.unsynced;
   front = λ told. subst (λ (f : FileState). f.front ≡ length f.bytes) (sym (is.file told)) refl;
@@ -108,8 +109,8 @@ synced_durable tells c d is = record {
 
 pub syncs_durable : (tells : Bool) (r : Result (Unit {0}) FolderRefusal) (lane after : LaneState) → SyncsLane tells r lane after → OnOk r (All (λ c. IsSynced tells c) (chunks after))
 syncs_durable tells (Ok done) lane after each =
-    zip_all (λ c d. IsTold tells (synced c) d) (λ c. Unit {0}) (λ c. IsSynced tells c) (λ c d is _. synced_durable tells c d is)
-    (chunks lane) (chunks after) (each_zip (λ c d. IsTold tells (synced c) d) lane after each) (λ k d inside. tt)
+    zip_all (λ c d. IsTold tells (synced_chunk c) d) (λ c. Unit {0}) (λ c. IsSynced tells c) (λ c d is _. synced_durable tells c d is)
+    (chunks lane) (chunks after) (each_zip (λ c d. IsTold tells (synced_chunk c) d) lane after each) (λ k d inside. tt)
 syncs_durable tells (Err e) lane after each = tt
 
 module _ (class : Class) (full : List Chunk) (t : Option Chunk) (lane : LaneState) (view : record { class = class; full = full; taking = t } ≡ lane) (now changed : List Chunk) (u : Option Chunk) (is : now ≡ changed) where
@@ -118,10 +119,10 @@ module _ (class : Class) (full : List Chunk) (t : Option Chunk) (lane : LaneStat
       subst (λ (l : LaneState). EachChunk R l (record { class = class; full = now; taking = u })) view
       (record { class = refl; full = subst (λ (cs : List Chunk). AllZip R full cs) (sym is) front; taking = back })
 
-  pub lane_synced : (tells : Bool) (r : Result (Unit {0}) FolderRefusal) → AllZip (λ c d. IsTold tells (synced c) d) full changed → SyncsEach tells r (option_to_list t) (option_to_list u) → SyncsLane tells r lane (record { class = class; full = now; taking = u })
-  lane_synced tells (Ok done) front back = each_from (λ c d. IsTold tells (synced c) d) front back
+  pub lane_synced : (tells : Bool) (r : Result (Unit {0}) FolderRefusal) → AllZip (λ c d. IsTold tells (synced_chunk c) d) full changed → SyncsEach tells r (option_to_list t) (option_to_list u) → SyncsLane tells r lane (record { class = class; full = now; taking = u })
+  lane_synced tells (Ok done) front back = each_from (λ c d. IsTold tells (synced_chunk c) d) front back
   lane_synced tells (Err e) front back =
-      each_from (λ c d. IsKept tells c d) (zip_weaker (λ c d. IsTold tells (synced c) d) (IsKept tells) (kept_synced tells) full changed front) back
+      each_from (λ c d. IsChunkKept tells c d) (zip_weaker (λ c d. IsTold tells (synced_chunk c) d) (IsChunkKept tells) (kept_synced tells) full changed front) back
 
   pub lane_same : changed ≡ full → u ≡ t → record { class = class; full = now; taking = u } ≡ lane
   lane_same kept same =
@@ -129,7 +130,7 @@ module _ (class : Class) (full : List Chunk) (t : Option Chunk) (lane : LaneStat
       ∙ ap (λ (o : Option Chunk). let l : LaneState = record { class = class; full = full; taking = o } in l) same
       ∙ view
 
-pub lane_stopped : (class : Class) (full : List Chunk) (t : Option Chunk) (lane : LaneState) → record { class = class; full = full; taking = t } ≡ lane → (now changed : List Chunk) → now ≡ changed → (tells : Bool) (e : FolderRefusal) (r : Result (Unit {0}) FolderRefusal) → r ≡ Err e → AllZip (λ c d. IsKept tells c d) full changed → SyncsLane tells r lane (record { class = class; full = now; taking = t })
+pub lane_stopped : (class : Class) (full : List Chunk) (t : Option Chunk) (lane : LaneState) → record { class = class; full = full; taking = t } ≡ lane → (now changed : List Chunk) → now ≡ changed → (tells : Bool) (e : FolderRefusal) (r : Result (Unit {0}) FolderRefusal) → r ≡ Err e → AllZip (λ c d. IsChunkKept tells c d) full changed → SyncsLane tells r lane (record { class = class; full = now; taking = t })
 lane_stopped class full t lane view now changed is tells e r refused front =
     subst (λ (x : Result (Unit {0}) FolderRefusal). SyncsLane tells x lane (record { class = class; full = now; taking = t })) (sym refused)
-    (each_from class full t lane view now changed t is (λ c d. IsKept tells c d) front (zip_same (λ c d. IsKept tells c d) (kept_itself tells) (option_to_list t)))
+    (each_from class full t lane view now changed t is (λ c d. IsChunkKept tells c d) front (zip_same (λ c d. IsChunkKept tells c d) (kept_itself tells) (option_to_list t)))

@@ -13,11 +13,12 @@ use Rattle.dir_files.specs.declared.folder.FolderRefusal.{FolderRefusal}
 use Rattle.dir_files.specs.Files.{FileState, IsFile, named_file, KeepsMore, Rises, IsDurable}
 use Rattle.dir_files.specs.Ports.{Port, Gives, either_file, can_be_fixed}
 use Rattle.value_chunk.specs.Chunks.{Chunk}
-use Rattle.value_chunk.specs.Calls.{IsTold, synced, marked}
+use Rattle.value_chunk.specs.Calls.{IsTold, synced_chunk, marked}
 use Rattle.writer_chunks.specs.Lanes.{LaneState, chunks, file_among, IsLane}
 use Rattle.writer_chunks.specs.PortFits.{FitsPort}
 use Rattle.writer_chunks.specs.LaneCalls.{GivesEach, IsSynced, LeavesFull, SettlesPort, sealed_chunks}
-use Rattle.writer_chunks.proofs.FileLaws.{IsOnce, file_among-append, zip_all, rises_same, rises_beside}
+use Rattle.dir_files.proofs.JoinLaws.{rises_same}
+use Rattle.writer_chunks.proofs.FileLaws.{IsOnce, file_among-append, zip_all, rises_beside}
 use Rattle.writer_chunks.proofs.LaneLaws.{SameName}
 use Rattle.writer_chunks.proofs.LaneSyncLaws.{all_front, all_back, zip_with_all}
 use Rattle.writer_chunks.proofs.GiveLaws.{and_true, gives_more, gives_others, none_gone, once_apart, split_none}
@@ -40,7 +41,7 @@ sealed_cond false f g p q step none = step none
 pub sealed_absent : (cs : List Chunk) (n : ChunkName) → file_among cs n ≡ None → file_among (sealed_chunks cs) n ≡ None
 sealed_absent [] n none = refl
 sealed_absent (c ∷ cs) n none =
-    sealed_cond (is_name c.name n) c.file (marked (synced c)).file (file_among cs n) (file_among (sealed_chunks cs) n) (sealed_absent cs n) none
+    sealed_cond (is_name c.name n) c.file (marked (synced_chunk c)).file (file_among cs n) (file_among (sealed_chunks cs) n) (sealed_absent cs n) none
 
 module _ (all rest given : List Chunk) (c : Chunk) (split : all ≡ rest ++ c ∷ given) where
   pub seal_unsynced : (tells : Bool) → All (λ x. IsSynced tells x) all → c.unsynced ≡ false
@@ -54,9 +55,9 @@ module _ (all rest given : List Chunk) (c : Chunk) (split : all ≡ rest ++ c �
       gives.fixed c.name ∙ ap (λ (b : Bool). b && not (is_some (file_among (sealed_chunks given) c.name))) here
       ∙ ap (λ (o : Option FileState). true && not (is_some o)) none
 
-  pub seal_more : (p q r : Port) → AllPairs (λ a b. a.name ≢ b.name) all → GivesEach p q (sealed_chunks given) → Gives q r c.name (marked (synced c)).file → GivesEach p r (sealed_chunks (c ∷ given))
+  pub seal_more : (p q r : Port) → AllPairs (λ a b. a.name ≢ b.name) all → GivesEach p q (sealed_chunks given) → Gives q r c.name (marked (synced_chunk c)).file → GivesEach p r (sealed_chunks (c ∷ given))
   seal_more p q r once gives one =
-      gives_more p q r (marked (synced c)) (sealed_chunks given) gives one (sealed_absent given c.name (split_none all rest given c split once))
+      gives_more p q r (marked (synced_chunk c)) (sealed_chunks given) gives one (sealed_absent given c.name (split_none all rest given c split once))
 
 -- ---- files that are settled
 

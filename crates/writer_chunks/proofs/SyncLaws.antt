@@ -8,10 +8,10 @@ use Rattle.dir_files.specs.Faults.{CountsFault}
 use Rattle.dir_files.specs.Files.{FileState, Rose}
 use Rattle.std.proofs.lemmas.Bool.{false≢true}
 use Rattle.hr_base.specs.declared.name.ChunkName.{ChunkName}
-use Rattle.dir_files.specs.PortCalls.{Counts, GivesFile, LeavesPort}
+use Rattle.dir_files.specs.PortCalls.{CountsCall, GivesFile, LeavesPort}
 use Rattle.dir_files.specs.Ports.{Port, SamePort}
 use Rattle.value_chunk.specs.Chunks.{Chunk}
-use Rattle.value_chunk.specs.Calls.{IsTold, IsKept, synced}
+use Rattle.value_chunk.specs.Calls.{IsTold, IsChunkKept, synced_chunk}
 use Rattle.writer_chunks.proofs.FileLaws.{zip_weaker, zip_append, zip_same}
 
 -- ---- ports, from call to call
@@ -42,7 +42,7 @@ module _ {F File : Type 0} (folder : Ghosts F File) (refused : Bool) (a b c : F)
     stays_sound = λ sound. second.stays_sound (first.stays_sound sound).0;
   }
 
-  pub counts_then : Counts folder false a b → Counts folder refused b c → Counts folder refused a c
+  pub counts_then : CountsCall folder false a b → CountsCall folder refused b c → CountsCall folder refused a c
   counts_then first second = record {
     counts = faults_then refused (folder.count a) (folder.count b) (folder.count c) first.counts second.counts;
     stays_sound = λ sound. second.stays_sound (first.stays_sound sound).0;
@@ -53,20 +53,20 @@ module _ {F File : Type 0} (folder : Ghosts F File) (refused : Bool) (a b c : F)
 told_itself : (tells : Bool) (c : Chunk) → IsTold tells c c
 told_itself tells c = record { name = refl; size = refl; unsynced = refl; torn = refl; file = λ told. refl }
 
-pub kept_itself : (tells : Bool) (c : Chunk) → IsKept tells c c
+pub kept_itself : (tells : Bool) (c : Chunk) → IsChunkKept tells c c
 kept_itself tells c = record { name = refl; size = refl; torn = refl; either = inl (told_itself tells c) }
 
-pub kept_synced : (tells : Bool) (c d : Chunk) → IsTold tells (synced c) d → IsKept tells c d
+pub kept_synced : (tells : Bool) (c d : Chunk) → IsTold tells (synced_chunk c) d → IsChunkKept tells c d
 kept_synced tells c d is = record { name = is.name; size = is.size; torn = is.torn; either = inr is }
 
-pub kept_told : (tells : Bool) (c d : Chunk) → IsTold tells c d → IsKept tells c d
+pub kept_told : (tells : Bool) (c d : Chunk) → IsTold tells c d → IsChunkKept tells c d
 kept_told tells c d is = record { name = is.name; size = is.size; torn = is.torn; either = inl is }
 
 -- the chunk at a place, at any default
 pub reads : (now : List Chunk) (i : ℕ) (r : Chunk) → i < length now → get_or now i r ≡ get_or now i (get_or now i r)
 reads now i r inside = get_or_default now i r (get_or now i r) inside
 
-module _ (tells : Bool) (old now : List Chunk) (i : ℕ) (c d : Chunk) (inside : i < length old) (long : length now ≡ length old) (read : c ≡ get_or now i c) (front : AllZip (λ x y. IsTold tells (synced x) y) (take i old) (take i now)) (rest : drop i now ≡ drop i old) where
+module _ (tells : Bool) (old now : List Chunk) (i : ℕ) (c d : Chunk) (inside : i < length old) (long : length now ≡ length old) (read : c ≡ get_or now i c) (front : AllZip (λ x y. IsTold tells (synced_chunk x) y) (take i old) (take i now)) (rest : drop i now ≡ drop i old) where
   -- the chunk is as it was
   pub read_old : c ≡ get_or old i c
   read_old =
@@ -79,16 +79,16 @@ module _ (tells : Bool) (old now : List Chunk) (i : ℕ) (c d : Chunk) (inside :
       drop-set-lt (i + 1) now i d (omega arith)
       ∙ sym (drop-drop 1 i now) ∙ ap (drop 1) rest ∙ drop-drop 1 i old
 
-  pub front_more : IsTold tells (synced c) d → AllZip (λ x y. IsTold tells (synced x) y) (take (i + 1) old) (take (i + 1) (set now i d))
+  pub front_more : IsTold tells (synced_chunk c) d → AllZip (λ x y. IsTold tells (synced_chunk x) y) (take (i + 1) old) (take (i + 1) (set now i d))
   front_more is =
-      subst (λ (cs : List Chunk). AllZip (λ x y. IsTold tells (synced x) y) (take (i + 1) old) cs) (sym (take_more_set now i d (omega arith)))
-      (all_zip_more (λ (x : Chunk) (y : Chunk). IsTold tells (synced x) y) old (take i now) i c d inside read_old front is)
+      subst (λ (cs : List Chunk). AllZip (λ x y. IsTold tells (synced_chunk x) y) (take (i + 1) old) cs) (sym (take_more_set now i d (omega arith)))
+      (all_zip_more (λ (x : Chunk) (y : Chunk). IsTold tells (synced_chunk x) y) old (take i now) i c d inside read_old front is)
 
   -- the folder refused this one
-  pub stopped : IsTold tells c d → AllZip (λ x y. IsKept tells x y) old (set now i d)
+  pub stopped : IsTold tells c d → AllZip (λ x y. IsChunkKept tells x y) old (set now i d)
   stopped is =
-      let R : Chunk → Chunk → Type 0 = λ x y. IsKept tells x y in
-      let before = zip_weaker (λ x y. IsTold tells (synced x) y) R (kept_synced tells) (take i old) (take i now) front in
+      let R : Chunk → Chunk → Type 0 = λ x y. IsChunkKept tells x y in
+      let before = zip_weaker (λ x y. IsTold tells (synced_chunk x) y) R (kept_synced tells) (take i old) (take i now) front in
       let upto = all_zip_more R old (take i now) i c d inside read_old before (kept_told tells c d is) in
       let here = subst (λ (cs : List Chunk). AllZip R (take (i + 1) old) cs) (sym (take_more_set now i d (omega arith))) upto in
       let behind = subst (λ (cs : List Chunk). AllZip R (drop (i + 1) old) cs) (sym rest_more) (zip_same R (kept_itself tells) (drop (i + 1) old)) in
@@ -100,20 +100,20 @@ module _ (tells : Bool) (old now : List Chunk) (i : ℕ) (c d : Chunk) (inside :
   same_more same =
       ap (set now i) (same ∙ read) ∙ set-get_or now i c
 
-pub all_synced : (tells : Bool) (old now : List Chunk) (i : ℕ) → length old ≤ i → length now ≡ length old → AllZip (λ x y. IsTold tells (synced x) y) (take i old) (take i now) → AllZip (λ x y. IsTold tells (synced x) y) old now
+pub all_synced : (tells : Bool) (old now : List Chunk) (i : ℕ) → length old ≤ i → length now ≡ length old → AllZip (λ x y. IsTold tells (synced_chunk x) y) (take i old) (take i now) → AllZip (λ x y. IsTold tells (synced_chunk x) y) old now
 all_synced tells old now i past long zip =
-    subst (λ (cs : List Chunk). AllZip (λ x y. IsTold tells (synced x) y) cs now) (take_all i old past)
-    (subst (λ (cs : List Chunk). AllZip (λ x y. IsTold tells (synced x) y) (take i old) cs) (take_all i now (omega arith)) zip)
+    subst (λ (cs : List Chunk). AllZip (λ x y. IsTold tells (synced_chunk x) y) cs now) (take_all i old past)
+    (subst (λ (cs : List Chunk). AllZip (λ x y. IsTold tells (synced_chunk x) y) (take i old) cs) (take_all i now (omega arith)) zip)
 
 -- ---- counts of calls that the disk refuses none of
 
-pub counts_none : {F File : Type 0} (folder : Ghosts F File) (a : F) → (folder.sound a ≡ true → folder.count a ≡ 0) → Counts folder false a a
+pub counts_none : {F File : Type 0} (folder : Ghosts F File) (a : F) → (folder.sound a ≡ true → folder.count a ≡ 0) → CountsCall folder false a a
 counts_none folder a law = record {
   counts = record { rose = λ is. absurd (false≢true is); stays = λ is. refl; kept = omega arith };
   stays_sound = λ sound. (sound, law sound);
 }
 
-pub counts_given : {F File : Type 0} (folder : Ghosts F File) (a b : F) (name : ChunkName) (file : FileState) → GivesFile folder a b name file → Counts folder false a b
+pub counts_given : {F File : Type 0} (folder : Ghosts F File) (a b : F) (name : ChunkName) (file : FileState) → GivesFile folder a b name file → CountsCall folder false a b
 counts_given folder a b name file gives = record {
   counts = record { rose = λ is. absurd (false≢true is); stays = λ is. gives.counts; kept = omega (arith, gives.counts) };
   stays_sound = gives.stays_sound;

@@ -8,7 +8,7 @@ use Rattle.dir_files.specs.declared.folder.FolderRefusal.TheVariants.{Memory, Fa
 use Rattle.dir_files.specs.Files.{Files, IsDurable, Rises, new_file, with_bytes, ChangesAt, SameAt}
 use Rattle.dir_files.specs.Ports.{Port, either_file}
 use Rattle.value_chunk.specs.Chunks.{Chunk}
-use Rattle.value_chunk.specs.Calls.{IsTold, IsKept, Appends, begun, synced, marked}
+use Rattle.value_chunk.specs.Calls.{IsTold, IsChunkKept, Appends, begun, synced_chunk, marked}
 use Rattle.writer_chunks.specs.Lanes.{LaneState, chunks, file_among, seen}
 use Rattle.writer_chunks.specs.PortFits.{IsClearOf, LeavesOthers}
 
@@ -56,12 +56,12 @@ pub record EachChunk (R : Chunk → Chunk → Type 0) (old new : LaneState) : Ty
 
 -- the chunks were to be synced, one after another
 abbrev pub SyncsEach : Bool → Result (Unit {0}) FolderRefusal → List Chunk → List Chunk → Type 0
-SyncsEach tells (Ok done) old new = AllZip (λ chunk after. IsTold tells (synced chunk) after) old new
-SyncsEach tells (Err refusal) old new = AllZip (λ chunk after. IsKept tells chunk after) old new
+SyncsEach tells (Ok done) old new = AllZip (λ chunk after. IsTold tells (synced_chunk chunk) after) old new
+SyncsEach tells (Err refusal) old new = AllZip (λ chunk after. IsChunkKept tells chunk after) old new
 
 abbrev pub SyncsLane : Bool → Result (Unit {0}) FolderRefusal → LaneState → LaneState → Type 0
-SyncsLane tells (Ok done) old new = EachChunk (λ chunk after. IsTold tells (synced chunk) after) old new
-SyncsLane tells (Err refusal) old new = EachChunk (λ chunk after. IsKept tells chunk after) old new
+SyncsLane tells (Ok done) old new = EachChunk (λ chunk after. IsTold tells (synced_chunk chunk) after) old new
+SyncsLane tells (Err refusal) old new = EachChunk (λ chunk after. IsChunkKept tells chunk after) old new
 
 -- no bytes are past the file's front
 pub record IsSynced (tells : Bool) (chunk : Chunk) : Type 0 where
@@ -70,7 +70,7 @@ pub record IsSynced (tells : Bool) (chunk : Chunk) : Type 0 where
 
 -- as they are once bytes and names are durable
 abbrev pub sealed_chunks : List Chunk → List Chunk
-sealed_chunks chunks = map (λ chunk. marked (synced chunk)) chunks
+sealed_chunks chunks = map (λ chunk. marked (synced_chunk chunk)) chunks
 
 -- the full chunks that are left: none, or some of the first where the folder refused to seal one
 abbrev pub LeavesFull : Result (Unit {0}) FolderRefusal → List Chunk → List Chunk → Type 0

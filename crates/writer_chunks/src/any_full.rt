@@ -3,7 +3,7 @@
 ghost use Rattle.std.specs.Prelude.{◌≡◌, true, false, IsOk};
 ghost use Rattle.dir_files.specs.Faults.{is_fault};
 ghost use Rattle.dir_files.specs.Files.{synced_file, named_file};
-ghost use Rattle.dir_files.specs.PortCalls.{Counts, GivesFile, LeavesPort};
+ghost use Rattle.dir_files.specs.PortCalls.{CountsCall, GivesFile, LeavesPort};
 ghost use Rattle.dir_files.specs.Ports.{can_be_fixed, Gives};
 ghost use Rattle.value_chunk.specs.Calls.{SyncsFile};
 
@@ -70,7 +70,7 @@ impl<F: Folder> AnyFull<F> {
         ensures sealed { F.tells ≡ true → IsOk result }
         ensures given { F.tells ≡ true
             → Gives (F.port port.old) (F.port port.new) self.name (named_file (synced_file self.file)) }
-        ensures counts { Counts ⟦<F as Folder>⟧ (is_fault result) port.old port.new }
+        ensures counts { CountsCall ⟦<F as Folder>⟧ (is_fault result) port.old port.new }
     {
         let AnyFull { waiting } = self;
         match waiting {

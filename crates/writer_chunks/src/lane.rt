@@ -5,7 +5,7 @@ ghost use Rattle.std.specs.List.{AllZip};
 ghost use Rattle.hr_base.specs.declared.limits.TheConstants.{MAX_CHUNK_LIMIT};
 ghost use Rattle.hr_base.specs.Names.{IsChunkName, class_of_kind};
 ghost use Rattle.dir_files.specs.Faults.{is_fault};
-ghost use Rattle.dir_files.specs.PortCalls.{Counts, LeavesPort};
+ghost use Rattle.dir_files.specs.PortCalls.{CountsCall, LeavesPort};
 ghost use Rattle.dir_files.specs.Ports.{IsFreeName};
 ghost use Rattle.value_chunk.specs.Chunks.{IsOneRecord};
 ghost use Rattle.value_chunk.specs.Calls.{BeginsAt, IsTold, marked};
@@ -85,7 +85,7 @@ impl<F: Folder> Lane<F> {
             → BeginsFile result (seen (F.port port.old) self.old) (seen (F.port port.new) self.new) name }
         ensures fits { F.tells ≡ true → FitsPort (F.port port.new) self.new }
         ensures others { F.tells ≡ true → LeavesOthers self.old.class (F.port port.old) (F.port port.new) }
-        ensures counts { Counts ⟦<F as Folder>⟧ (is_fault result) port.old port.new }
+        ensures counts { CountsCall ⟦<F as Folder>⟧ (is_fault result) port.old port.new }
     {
         self.full.reserve(1)?;
         let chunk = AnyFilling::begin(port, name)?;
@@ -143,7 +143,7 @@ impl<F: Folder> Lane<F> {
         ensures settled { SettlesLane F.tells result self.old self.new }
         ensures port { F.tells ≡ true → SettlesPort (F.port port.old) (F.port port.new) self.old self.new }
         ensures fits { F.tells ≡ true → FitsPort (F.port port.new) self.new }
-        ensures counts { Counts ⟦<F as Folder>⟧ (is_fault result) port.old port.new }
+        ensures counts { CountsCall ⟦<F as Folder>⟧ (is_fault result) port.old port.new }
     {
         mark_taking(&mut self.taking, port);
         seal_each(&mut self.full, port)
@@ -153,7 +153,7 @@ impl<F: Folder> Lane<F> {
     pub fn give(self, port: &mut F)
         requires { F.tells ≡ true → FitsPort (F.port port.old) self }
         ensures given { F.tells ≡ true → GivesLane (F.port port.old) (F.port port.new) self }
-        ensures counts { Counts ⟦<F as Folder>⟧ false port.old port.new }
+        ensures counts { CountsCall ⟦<F as Folder>⟧ false port.old port.new }
     {
         let Lane {
             class: _,
@@ -226,7 +226,7 @@ fn seal_each<F: Folder>(full: &mut Vec<AnyFull<F>>, port: &mut F) -> Result<(), 
     ensures answer { F.tells ≡ true → IsOk result }
     ensures left { LeavesFull result full.old.items full.new.items }
     ensures given { F.tells ≡ true → GivesEach (F.port port.old) (F.port port.new) (sealed_chunks full.old.items) }
-    ensures counts { Counts ⟦<F as Folder>⟧ (is_fault result) port.old port.new }
+    ensures counts { CountsCall ⟦<F as Folder>⟧ (is_fault result) port.old port.new }
 {
     while let Some(chunk) = full.pop() {
         chunk.seal_and_give(port)?;
@@ -238,7 +238,7 @@ fn seal_each<F: Folder>(full: &mut Vec<AnyFull<F>>, port: &mut F) -> Result<(), 
 fn give_each<F: Folder>(mut full: Vec<AnyFull<F>>, port: &mut F)
     requires { F.tells ≡ true → AllPairs (λ a b. a.name ≢ b.name) full.items }
     ensures given { F.tells ≡ true → GivesEach (F.port port.old) (F.port port.new) full.items }
-    ensures counts { Counts ⟦<F as Folder>⟧ false port.old port.new }
+    ensures counts { CountsCall ⟦<F as Folder>⟧ false port.old port.new }
 {
     while let Some(chunk) = full.pop() {
         chunk.give(port);
@@ -249,7 +249,7 @@ fn give_each<F: Folder>(mut full: Vec<AnyFull<F>>, port: &mut F)
 /// Gives the chunk's file back to the folder, where there is a chunk.
 fn give_taking<F: Folder>(taking: Option<AnyFilling<F>>, port: &mut F)
     ensures given { F.tells ≡ true → GivesEach (F.port port.old) (F.port port.new) (option_to_list taking) }
-    ensures counts { Counts ⟦<F as Folder>⟧ false port.old port.new }
+    ensures counts { CountsCall ⟦<F as Folder>⟧ false port.old port.new }
 {
     match taking {
         Some(chunk) => chunk.give(port),

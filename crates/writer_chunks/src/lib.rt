@@ -8,6 +8,3 @@ mod lane;
 pub mod laws;
 
 pub use lane::Lane;
-
-#[cfg(test)]
-mod tests;

@@ -12,7 +12,7 @@ use Rattle.value_chunk.specs.Chunks.{Chunk}
 use Rattle.writer_chunks.specs.Lanes.{LaneState, chunks, empty_lane, file_among, seen}
 use Rattle.writer_chunks.specs.LaneCalls.{EachRises}
 use Rattle.writer_chunks.specs.PortFits.{FitsPort, LeavesOthers}
-use Rattle.writer_chunks.proofs.FileLaws.{rises_same}
+use Rattle.dir_files.proofs.JoinLaws.{rises_same}
 use Rattle.writer_chunks.proofs.FitLaws.{fits_others}
 use Rattle.writer_files.specs.Stocks.{Stock, HasClasses, IsStock, lane_of, files_of}
 use Rattle.writer_files.specs.StockCalls.{KeepsOthers}

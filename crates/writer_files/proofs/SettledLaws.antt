@@ -15,7 +15,8 @@ use Rattle.value_chunk.specs.Calls.{IsTold, marked}
 use Rattle.writer_chunks.specs.Lanes.{LaneState, chunks, file_among, seen}
 use Rattle.writer_chunks.specs.LaneCalls.{EachRises, IsSynced, SettlesLane, SettlesPort}
 use Rattle.writer_chunks.specs.PortFits.{FitsPort, LeavesOthers}
-use Rattle.writer_chunks.proofs.FileLaws.{rises_same, rises_beside, zip_all, file_among-here, file_among-past}
+use Rattle.dir_files.proofs.JoinLaws.{rises_same}
+use Rattle.writer_chunks.proofs.FileLaws.{rises_beside, zip_all, file_among-here, file_among-past}
 use Rattle.writer_chunks.proofs.FitLaws.{all_fixed, fits_others, fits_synced_names, fixed_others}
 use Rattle.writer_chunks.proofs.LaneSyncLaws.{all_back}
 use Rattle.writer_files.specs.Stocks.{Stock, AllDurable, EachSynced, HasClasses, IsStock, lane_of, files_of}

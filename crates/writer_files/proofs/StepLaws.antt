@@ -10,7 +10,7 @@ use Rattle.dir_files.specs.declared.folder.FolderRefusal.{FolderRefusal}
 use Rattle.dir_files.specs.Files.{FileState, Files, Rises, SameAt}
 use Rattle.dir_files.specs.Ports.{SamePort, either_file}
 use Rattle.value_chunk.specs.Chunks.{Chunk}
-use Rattle.value_chunk.specs.Calls.{IsKept}
+use Rattle.value_chunk.specs.Calls.{IsChunkKept}
 use Rattle.writer_chunks.specs.Lanes.{LaneState, chunks, file_among, seen}
 use Rattle.writer_chunks.specs.LaneCalls.{EachChunk, EachRises, IsSynced}
 use Rattle.writer_chunks.specs.PortFits.{FitsPort}
@@ -53,13 +53,13 @@ module _ (tells : Bool) (old new : Stock) (class : Class) (others : KeepsOthers 
   }
 
   -- the chunks of one class were synced, or some of them
-  pub synced_whole : EachChunk (IsKept tells) (lane_of old class) (lane_of new class) → (tells ≡ true → SamePort old.port new.port) → (tells ≡ true → EachRises (seen old.port (lane_of old class)) (seen new.port (lane_of new class))) → (tells ≡ true → FitsPort new.port (lane_of new class)) → IsWhole tells old → IsWhole tells new
+  pub synced_whole : EachChunk (IsChunkKept tells) (lane_of old class) (lane_of new class) → (tells ≡ true → SamePort old.port new.port) → (tells ≡ true → EachRises (seen old.port (lane_of old class)) (seen new.port (lane_of new class))) → (tells ≡ true → FitsPort new.port (lane_of new class)) → IsWhole tells old → IsWhole tells new
   synced_whole each same rises here whole = record {
     classes = classes_kept old new class others whole.classes each.class;
     waits = λ stale.
         let none = whole.waits (sym fresh ∙ stale) in
         full_kept old new class others none
-        (zip_none (IsKept tells) (lane_of old class).full (lane_of new class).full each.full (none class));
+        (zip_none (IsChunkKept tells) (lane_of old class).full (lane_of new class).full each.full (none class));
     stocked = λ told. rose_stock (same told) (rises told) (here told) whole.classes (whole.stocked told);
   }
 

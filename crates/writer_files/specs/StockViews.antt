@@ -6,8 +6,8 @@ use Rattle.writer_files.specs.Stocks.{Stock}
 
 module _ {F File : Type 0} {g : FolderGhosts F File} {h : NamedGhosts File} where
   -- the port as it is
-  abbrev pub port_of : WriterFiles F File g h → F
-  port_of files = files.port
+  abbrev pub stock_port : WriterFiles F File g h → F
+  stock_port files = files.port
 
   abbrev pub stock : WriterFiles F File g h → Stock
   stock files = record {

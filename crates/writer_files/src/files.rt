@@ -31,7 +31,7 @@ impl<F: Folder> WriterFiles<F> {
     ghost use Rattle.hr_base.specs.Names.{IsChunkName, class_of_kind};
     ghost use Rattle.dir_files.specs.Faults.{is_fault};
     ghost use Rattle.dir_files.specs.Files.{FileState, IsFile};
-    ghost use Rattle.dir_files.specs.PortCalls.{Counts, LeavesPort};
+    ghost use Rattle.dir_files.specs.PortCalls.{CountsCall, LeavesPort};
     ghost use Rattle.dir_files.specs.Ports.{IsEmptyPort};
     ghost use Rattle.dir_files.specs.PortStates.{IsGivenBack};
     ghost use Rattle.value_chunk.specs.Chunks.{IsOneRecord};
@@ -39,12 +39,12 @@ impl<F: Folder> WriterFiles<F> {
     ghost use Rattle.writer_chunks.specs.LaneCalls.{BeginsFile, EachRises};
     ghost use Rattle.writer_files.specs.Stocks.{lane_of, files_of, taking_of, IsReady, IsSettled, AllDurable, EachSynced, HasSynced};
     ghost use Rattle.writer_files.specs.StockCalls.{BeginsAny, AppendsAny, ExtendsFile, KeepsTaking};
-    ghost use Rattle.writer_files.specs.StockViews.{port_of, stock};
+    ghost use Rattle.writer_files.specs.StockViews.{stock_port, stock};
 
     /// No chunks, over a port without files. It takes no memory.
     pub fn new(alloc: Global, port: F) -> WriterFiles<F>
         requires { F.tells ≡ true → IsEmptyPort (F.port port) }
-        ensures port { port_of result ≡ port }
+        ensures port { stock_port result ≡ port }
         ensures lanes { (class : Class) → lane_of (stock result) class ≡ empty_lane class }
         ensures fresh { (stock result).fresh ≡ false }
         ensures files { F.tells ≡ true → (name : ChunkName) → files_of (stock result) name ≡ None }
@@ -60,7 +60,7 @@ impl<F: Folder> WriterFiles<F> {
 
     /// How often the disk failed at the port, or the greatest number.
     pub fn faults(&self) -> u64
-        ensures { result ≡ F.count (port_of self.now) }
+        ensures { result ≡ F.count (stock_port self.now) }
     {
         self.port.faults()
     }
@@ -88,7 +88,7 @@ impl<F: Folder> WriterFiles<F> {
         ensures begun { BeginsAny F.tells result (stock self.old) (stock self.new) name }
         ensures files { F.tells ≡ true
             → BeginsFile result (files_of (stock self.old)) (files_of (stock self.new)) name }
-        ensures counts { Counts ⟦<F as Folder>⟧ (is_fault result) (port_of self.old) (port_of self.new) }
+        ensures counts { CountsCall ⟦<F as Folder>⟧ (is_fault result) (stock_port self.old) (stock_port self.new) }
     {
         let begun = match class_of(name.kind) {
             Class::Value => self.values.begin(&mut self.port, name),
@@ -108,7 +108,7 @@ impl<F: Folder> WriterFiles<F> {
         ensures appended { AppendsAny F.tells result (stock self.old) (stock self.new) class bytes.now }
         ensures files { F.tells ≡ true → IfSome (lane_of (stock self.old) class).taking
             (λ chunk. ExtendsFile result (files_of (stock self.old)) (files_of (stock self.new)) chunk.name bytes.now) }
-        ensures port { LeavesPort ⟦<F as Folder>⟧ (is_fault result) (port_of self.old) (port_of self.new) }
+        ensures port { LeavesPort ⟦<F as Folder>⟧ (is_fault result) (stock_port self.old) (stock_port self.new) }
     {
         match class {
             Class::Value => self.values.append(&mut self.port, bytes),
@@ -128,7 +128,7 @@ impl<F: Folder> WriterFiles<F> {
         ensures files { F.tells ≡ true → EachRises (files_of (stock self.old)) (files_of (stock self.new)) }
         ensures fits { F.tells ≡ true → (name : ChunkName) (file : FileState)
             → files_of (stock self.new) name ≡ Some file → IsFile file }
-        ensures counts { Counts ⟦<F as Folder>⟧ (is_fault result) (port_of self.old) (port_of self.new) }
+        ensures counts { CountsCall ⟦<F as Folder>⟧ (is_fault result) (stock_port self.old) (stock_port self.new) }
     {
         self.sync_bytes()?;
         if self.fresh {
@@ -155,7 +155,7 @@ impl<F: Folder> WriterFiles<F> {
         ensures idle { HasSynced (stock self.old) → IsOk result × (self.new ≡ self.old) }
         ensures taking { KeepsTaking (stock self.old) (stock self.new) }
         ensures files { F.tells ≡ true → EachRises (files_of (stock self.old)) (files_of (stock self.new)) }
-        ensures counts { Counts ⟦<F as Folder>⟧ (is_fault result) (port_of self.old) (port_of self.new) }
+        ensures counts { CountsCall ⟦<F as Folder>⟧ (is_fault result) (stock_port self.old) (stock_port self.new) }
     {
         self.values.sync(&mut self.port)?;
         self.tombs.sync(&mut self.port)?;
@@ -170,7 +170,7 @@ impl<F: Folder> WriterFiles<F> {
         ensures settled { OnOk result (IsSettled (stock self.new)) }
         ensures taking { KeepsTaking (stock self.old) (stock self.new) }
         ensures files { F.tells ≡ true → EachRises (files_of (stock self.old)) (files_of (stock self.new)) }
-        ensures counts { Counts ⟦<F as Folder>⟧ (is_fault result) (port_of self.old) (port_of self.new) }
+        ensures counts { CountsCall ⟦<F as Folder>⟧ (is_fault result) (stock_port self.old) (stock_port self.new) }
     {
         self.port.sync_names()?;
         self.values.settle(&mut self.port)?;
@@ -184,7 +184,7 @@ impl<F: Folder> WriterFiles<F> {
     pub fn close(self) -> F
         ensures given { F.tells ≡ true → IsGivenBack (F.port result) }
         ensures held { F.tells ≡ true → (name : ChunkName) → (F.port result).held name ≡ files_of (stock self) name }
-        ensures counts { Counts ⟦<F as Folder>⟧ false (port_of self) result }
+        ensures counts { CountsCall ⟦<F as Folder>⟧ false (stock_port self) result }
     {
         let WriterFiles {
             mut port,

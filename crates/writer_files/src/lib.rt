@@ -4,6 +4,3 @@
 mod files;
 
 pub use files::WriterFiles;
-
-#[cfg(test)]
-mod tests;

@@ -3,7 +3,7 @@ use Rattle.std.specs.String.{string_bytes}
 use Rattle.std.proofs.lemmas.Bool.{false≢true}
 use Rattle.command_words.specs.declared.table.Setting.{Setting}
 use Rattle.command_words.specs.Table.{IsNumberFor}
-use Rattle.command_words.specs.Words.{IsOptions, HasLimits, texts_of, with_number}
+use Rattle.command_words.specs.Words.{IsOptions, GivesLimits, word_texts, with_number}
 use Rattle.command_words.proofs.Words.{split, odd_word, joined, one_option}
 use Rattle.command_words.proofs.Texts.{one_first, two_first}
 use Rattle.command_words.proofs.read.+read_options.Goals as goal
@@ -14,7 +14,7 @@ returns-in_err-setting-in-len2-up-clause-none t c =
     let texts = two_first c.args.words.now c.name-item.result c.value-item.result c.in-len2-up.len_at_least c.name-item.is c.value-item.is in
     rw c.from_residual.ensures (λ givens h.
     let P : List (List ℕ) → Type 0 = λ ws. IsOptions c.args.verb ws givens in
-    let s = split c.args.verb (string_bytes c.name-item.result) (string_bytes c.value-item.result) (texts_of (take (length c.args.words.now - 2) (drop 2 c.args.words.now))) givens (subst P texts h) in
+    let s = split c.args.verb (string_bytes c.name-item.result) (string_bytes c.value-item.result) (word_texts (take (length c.args.words.now - 2) (drop 2 c.args.words.now))) givens (subst P texts h) in
     c.in_err-setting-in-len2-up.ensures.none s.setting s.taken (c.as_bytes.ensures.value ∙ s.named))
 
 pub returns-in_err-number-in-len2-up-clause-none :
@@ -23,7 +23,7 @@ returns-in_err-number-in-len2-up-clause-none t c =
     let texts = two_first c.args.words.now c.name-item.result c.value-item.result c.in-len2-up.len_at_least c.name-item.is c.value-item.is in
     rw c.from_residual-in_err-number-in-len2-up.ensures (λ givens h.
     let P : List (List ℕ) → Type 0 = λ ws. IsOptions c.args.verb ws givens in
-    let s = split c.args.verb (string_bytes c.name-item.result) (string_bytes c.value-item.result) (texts_of (take (length c.args.words.now - 2) (drop 2 c.args.words.now))) givens (subst P texts h) in
+    let s = split c.args.verb (string_bytes c.name-item.result) (string_bytes c.value-item.result) (word_texts (take (length c.args.words.now - 2) (drop 2 c.args.words.now))) givens (subst P texts h) in
     let same = one_option c.in_ok-setting-in-len2-up.setting s.setting (sym c.in_ok-setting-in-len2-up.ensures.found.1 ∙ (c.as_bytes.ensures.value ∙ s.named)) in
     let Q : Setting → Type 0 = λ x. IsNumberFor x s.number in
     c.in_err-number-in-len2-up.ensures.none s.number (subst Q (sym same) s.ranges) (c.as_bytes-in-len2-up.ensures.value ∙ s.spelled))
@@ -31,7 +31,7 @@ returns-in_err-number-in-len2-up-clause-none t c =
 pub returns-then-has_word-clause-none : goal.returns-then-has_word-clause-none
 returns-then-has_word-clause-none t c =
     let texts = two_first c.args.words.now c.name-item.result c.value-item.result c.in-len2-up.len_at_least c.name-item.is c.value-item.is in
-    let rest = texts_of (take (length c.args.words.now - 2) (drop 2 c.args.words.now)) in
+    let rest = word_texts (take (length c.args.words.now - 2) (drop 2 c.args.words.now)) in
     λ givens h.
     let P : List (List ℕ) → Type 0 = λ ws. IsOptions c.args.verb ws givens in
     let s = split c.args.verb (string_bytes c.name-item.result) (string_bytes c.value-item.result) rest givens (subst P texts h) in
@@ -44,7 +44,7 @@ returns-in_err-others-in-len2-up-clause-none t c =
     let texts = two_first c.args.words.now c.name-item.result c.value-item.result c.in-len2-up.len_at_least c.name-item.is c.value-item.is in
     rw c.from_residual-in_err-others-in-len2-up.ensures (λ givens h.
     let P : List (List ℕ) → Type 0 = λ ws. IsOptions c.args.verb ws givens in
-    let s = split c.args.verb (string_bytes c.name-item.result) (string_bytes c.value-item.result) (texts_of (take (length c.args.words.now - 2) (drop 2 c.args.words.now))) givens (subst P texts h) in
+    let s = split c.args.verb (string_bytes c.name-item.result) (string_bytes c.value-item.result) (word_texts (take (length c.args.words.now - 2) (drop 2 c.args.words.now))) givens (subst P texts h) in
     c.in_err-others-in-len2-up.ensures.none s.givens s.read)
 
 pub returns-in_default-clause-none : goal.returns-in_default-clause-none
@@ -58,7 +58,7 @@ pub returns-in_ok-others-in-len2-up-clause-found :
     goal.returns-in_ok-others-in-len2-up-clause-found
 returns-in_ok-others-in-len2-up-clause-found t c =
     let texts = two_first c.args.words.now c.name-item.result c.value-item.result c.in-len2-up.len_at_least c.name-item.is c.value-item.is in
-    let rest = texts_of (take (length c.args.words.now - 2) (drop 2 c.args.words.now)) in
+    let rest = word_texts (take (length c.args.words.now - 2) (drop 2 c.args.words.now)) in
     let s = c.in_ok-setting-in-len2-up.setting in
     let n = c.in_ok-number-in-len2-up.number in
     let Q : List ℕ → Type 0 = λ w. Contains rest w in
@@ -69,5 +69,5 @@ returns-in_ok-others-in-len2-up-clause-found t c =
     (sym c.as_bytes-in-len2-up.ensures.value ∙ c.in_ok-number-in-len2-up.ensures.found.1)
     (λ inside. false≢true (sym c.if-has_word.false ∙ c.has_word.ensures.1 (subst Q (sym c.as_bytes-in-len2-up-2.ensures.value) inside)))
     c.in_ok-others-in-len2-up.ensures.found in
-    let P : List (List ℕ) → Type 0 = λ ws. HasLimits c.args.verb ws (with_number c.in_ok-others-in-len2-up.others s n) in
+    let P : List (List ℕ) → Type 0 = λ ws. GivesLimits c.args.verb ws (with_number c.in_ok-others-in-len2-up.others s n) in
     rw c.set.ensures (subst P (sym texts) whole)

@@ -1,7 +1,7 @@
 use Rattle.std.proofs.Common.{◌≢◌, ◌<◌, ℕ, get_or, length, sym, ◌∙◌, arith, refl, below_more}
 use Rattle.std.proofs.lemmas.Slice.Eq.{bytes_eq-Decides}
 use Rattle.std.proofs.lemmas.Bool.{false≢true}
-use Rattle.command_words.specs.Words.{texts_of}
+use Rattle.command_words.specs.Words.{word_texts}
 use Rattle.command_words.proofs.Texts.{text_at, length-texts_of}
 use Rattle.command_words.proofs.read.has_word.Goals as goal
 
@@ -23,5 +23,5 @@ loop-other-preserved c =
     let here : i < length words = omega arith in
     let other : c.as_bytes.result.now ≢ c.args.word.now =
     λ e. false≢true (sym c.if-eq.false ∙ (c.eq.ensures ∙ (bytes_eq-Decides c.as_bytes.result.now c.args.word.now).1 e)) in
-    λ k d below. below_more (λ (j : ℕ). get_or (texts_of words) j d ≢ c.args.word.now) i (λ j lt. c.loop-other.invariant j d lt)
+    λ k d below. below_more (λ (j : ℕ). get_or (word_texts words) j d ≢ c.args.word.now) i (λ j lt. c.loop-other.invariant j d lt)
     (λ e. other (c.as_bytes.ensures.value ∙ (sym (text_at words i c.other-item.result d here c.other-item.is) ∙ e))) k below

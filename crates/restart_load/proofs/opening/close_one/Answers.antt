@@ -1,7 +1,8 @@
 use Rattle.std.proofs.Common.{◌∙◌}
 use Rattle.writer_files.specs.Stocks.{files_of}
 use Rattle.partition_writer.specs.WriterViews.{standing}
-use Rattle.restart_load.proofs.OpeningLaws.{can_join, kept_joined, no_some}
+use Rattle.dir_files.proofs.JoinLaws.{can_join, no_some}
+use Rattle.restart_load.proofs.OpeningLaws.{kept_joined}
 use Rattle.restart_load.proofs.opening.close_one.Goals as goal
 
 pub adopt-requires : goal.adopt-requires

@@ -6,7 +6,8 @@ use Rattle.partition_writer.specs.Standing.{Standing}
 use Rattle.partition_writer.specs.WriterViews.{standing}
 use Rattle.restart_load.specs.Opening.{AreOpened}
 use Rattle.restart_load.specs.Writers.{standings}
-use Rattle.restart_load.proofs.OpeningLaws.{length_standings, opened_pushed, part_at, same_after, standings_pushed}
+use Rattle.dir_files.proofs.JoinLaws.{same_after}
+use Rattle.restart_load.proofs.OpeningLaws.{length_standings, opened_pushed, part_at, standings_pushed}
 use Rattle.restart_load.proofs.opening.open_each.Goals as goal
 
 pub open_one-requires-clause-open : goal.open_one-requires-clause-open

@@ -1,5 +1,6 @@
 use Rattle.restart_load.specs.Writers.{standings}
-use Rattle.restart_load.proofs.OpeningLaws.{given_back_same, kept_after, kept_itself, kept_same, opened_no_file}
+use Rattle.dir_files.proofs.JoinLaws.{given_back_same}
+use Rattle.restart_load.proofs.OpeningLaws.{kept_after, kept_itself, kept_same, opened_no_file}
 use Rattle.restart_load.proofs.opening.open_writers.Goals as goal
 
 pub close_all-requires-clause-none : goal.close_all-requires-clause-none

@@ -5,7 +5,7 @@ use Rattle.hr_base.specs.declared.limits.TheConstants.{MAX_FILE_LEN}
 use Rattle.restart_load.specs.Contents.{FileBytes}
 use Rattle.restart_load.specs.Reading.{IsReadRefusal}
 use Rattle.restart_load.specs.declared.refusal.RestartRefusal.{RestartRefusal}
-use Rattle.restart_load.proofs.OpeningLaws.{same_after}
+use Rattle.dir_files.proofs.JoinLaws.{same_after}
 use Rattle.restart_load.proofs.ReadingLaws.{bytes_more, files_set, first_large, names_set, none_more, not_large, read_names_more}
 use Rattle.restart_load.proofs.reading.read_files.Goals as goal
 

@@ -2,7 +2,7 @@ use Rattle.std.proofs.Common.{◌≡◌, ◌++◌, ℕ, List, length, map, take,
 use Rattle.std.proofs.lemmas.Result.{IfErr-weaker, IfOk-weaker}
 use Rattle.hr_base.specs.Counts.{Rose}
 use Rattle.restart_load.specs.Reading.{IsFirstLarge}
-use Rattle.restart_load.specs.Taking.{AllDurableWith, HasTaken, TakenFile, bytes_of}
+use Rattle.restart_load.specs.Taking.{AllDurableWith, HasTaken, TakenFile, read_bytes}
 use Rattle.restart_load.proofs.FolderLaws.{durable_same, first_large_same, names_length, taken_same, written_back}
 use Rattle.restart_load.proofs.restarting.secure.Goals as goal
 
@@ -29,7 +29,7 @@ returns-clause-durable g c = λ tells.
 pub returns-clause-read : goal.returns-clause-read
 returns-clause-read g c = λ tells.
     let back = still c.take_files.new.files.len c.take_files.new.files.items _ c.read_files.new.files (c.read_files.ensures.same tells) c.as_mut_slice.ensures.value (search rules) in
-    IfOk-weaker c.read_files.result _ _ (λ _ h. h ∙ ap (map bytes_of) (c.as_mut_slice.ensures.value ∙ sym back)) (c.read_files.ensures.read tells)
+    IfOk-weaker c.read_files.result _ _ (λ _ h. h ∙ ap (map read_bytes) (c.as_mut_slice.ensures.value ∙ sym back)) (c.read_files.ensures.read tells)
 
 pub returns-clause-names : goal.returns-clause-names
 returns-clause-names g c =

@@ -31,4 +31,4 @@ returns-in-Err-clause-taken g c = λ tells start has.
     taken_back start (g.F.Folder.port c.args.folder.now) c.args.files.now.items has c.args.name file (sym (c.in_ok-file.ensures.file tells).1)
     (g.F.Folder.port c.take.new.self) (g.F.Folder.port c.sync_file.new.self) (g.F.Folder.port c.give.new.self) (c.in_ok-file.ensures.taken tells) (c.in-Err.ensures.same tells)
     (subst (λ (f : FileState). Gives (g.F.Folder.port c.sync_file.new.self) (g.F.Folder.port c.give.new.self) c.args.name f) (c.in-Err.ensures.refused tells)
-    (c.give.ensures.given tells c.args.name (c.in-Err.ensures.name tells ∙ (c.in_ok-file.ensures.file tells).0)))
+    (c.give.ensures.given tells c.args.name (c.in-Err.ensures.name ∙ (c.in_ok-file.ensures.file tells).0)))

@@ -1,7 +1,7 @@
 use Rattle.std.proofs.Common.{◌+◌, ◌≢◌, ◌∷◌, sym, length-drop, ap, ◌∙◌, take, drop, eq-eqb, get_or, arith}
 use Rattle.std.proofs.Math.Seq.{take-length}
 use Rattle.std.proofs.lemmas.List.Elements.{All-from_get_or}
-use Rattle.script_text.specs.Lines.{texts_of}
+use Rattle.script_text.specs.Lines.{line_texts}
 use Rattle.script_text.proofs.Cuts.{IsCut-first}
 use Rattle.script_text.proofs.Texts.{texts_of-cut, texts_of-last}
 use Rattle.script_text.proofs.script.first_text.Goals as goal
@@ -12,8 +12,8 @@ returns-in-Some-clause-split c =
     let end = c.in-Some.end in
     let cut = IsCut-first 10 bytes end c.in-Some.ensures.0 c.in-Some.ensures.1 in
     let rest = ap (λ n. take n (drop (end + 1) bytes)) (sym (length-drop (end + 1) bytes)) ∙ take-length (drop (end + 1) bytes) in
-    ap texts_of cut.joined ∙ texts_of-cut (take end bytes) (drop (end + 1) bytes) cut.lacking
-    ∙ ap (λ t. take end bytes ∷ texts_of t) (sym rest)
+    ap line_texts cut.joined ∙ texts_of-cut (take end bytes) (drop (end + 1) bytes) cut.lacking
+    ∙ ap (λ t. take end bytes ∷ line_texts t) (sym rest)
 
 pub returns-in-None-clause-split : goal.returns-in-None-clause-split
 returns-in-None-clause-split c =

@@ -1,6 +1,7 @@
 use Rattle.std.proofs.Common.{◌≡◌, ◌≤◌, ℕ, ◌++◌, length, take, drop, slice_get, sym, subst, ap, ◌∙◌, rules}
 use Rattle.script_text.specs.declared.line.Mode.TheVariants.{Play}
 use Rattle.script_text.specs.Lines.{IsLine}
+use Rattle.script_text.specs.Scripts.{left}
 use Rattle.std.specs.Prelude.{All}
 use Rattle.restart_load.specs.Writers.{standings}
 use Rattle.restart_load.proofs.FolderLaws.{written_back}
@@ -10,7 +11,7 @@ use Rattle.store_drill.proofs.session.play_on.Goals as goal
 
 pub play_lines-requires-clause-valid : goal.play_lines-requires-clause-valid
 play_lines-requires-clause-valid g c =
-    subst (λ (partitions : ℕ). All (IsLine Play partitions) c.args.lines.now) (sym (ap (λ writers. length writers) c.as_mut_slice.ensures.value)) c.requires.valid
+    subst (λ (partitions : ℕ). All (IsLine Play partitions) (left c.args.lines.now)) (sym (ap (λ writers. length writers) c.as_mut_slice.ensures.value)) c.requires.valid
 
 pub play_lines-requires-clause-running : goal.play_lines-requires-clause-running
 play_lines-requires-clause-running g c = λ p s is.
@@ -22,8 +23,8 @@ returns-clause-played g c =
     let played = c.play_lines.new.writers in
     let same : length played ≡ length items = search rules in
     let back : take c.args.writers.now.len (played ++ drop (length played) items) ≡ played = written_back c.args.writers.now.len items played same (search rules) in
-    subst (λ writers. Played g.F.Folder.tells c.args.lines.now (standings items) (standings writers) (g.K.Sink.taken c.args.out.now) (g.K.Sink.taken c.play_lines.new.out) c.play_lines.result) (sym back)
-    (subst (λ writers. Played g.F.Folder.tells c.args.lines.now (standings writers) (standings played) (g.K.Sink.taken c.args.out.now) (g.K.Sink.taken c.play_lines.new.out) c.play_lines.result) c.as_mut_slice.ensures.value
+    subst (λ writers. Played g.F.Folder.tells (left c.args.lines.now) (standings items) (standings writers) (g.K.Sink.taken c.args.out.now) (g.K.Sink.taken c.play_lines.new.out) c.play_lines.result) (sym back)
+    (subst (λ writers. Played g.F.Folder.tells (left c.args.lines.now) (standings writers) (standings played) (g.K.Sink.taken c.args.out.now) (g.K.Sink.taken c.play_lines.new.out) c.play_lines.result) c.as_mut_slice.ensures.value
     c.play_lines.ensures.played)
 
 pub returns-clause-same : goal.returns-clause-same

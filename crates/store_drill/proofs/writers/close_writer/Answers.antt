@@ -3,7 +3,7 @@ use Rattle.dir_files.specs.Files.{FileState}
 use Rattle.dir_files.specs.Ports.{either_file}
 use Rattle.writer_files.specs.Stocks.{files_of}
 use Rattle.partition_writer.specs.WriterViews.{standing}
-use Rattle.store_drill.proofs.FolderLaws.{can_join, given_back_joined}
+use Rattle.dir_files.proofs.JoinLaws.{can_join, given_back_joined}
 use Rattle.store_drill.proofs.writers.close_writer.Goals as goal
 
 pub adopt-requires : goal.adopt-requires

@@ -1,5 +1,5 @@
 use Rattle.std.proofs.Common.{◌≡◌, false, true, List, ◌++◌}
-use Rattle.dir_files.specs.PortCalls.{Counts}
+use Rattle.dir_files.specs.PortCalls.{CountsCall}
 use Rattle.value_chunk.specs.Chunks.{Chunk}
 use Rattle.writer_chunks.specs.LaneCalls.{GivesEach, sealed_chunks}
 use Rattle.writer_chunks.proofs.lane.seal_each.Given as goal
@@ -9,7 +9,7 @@ invariant-loop-chunk g l = record {
   given : List Chunk;
   split : l.initial.full.items ≡ l.full.items ++ given;
   gives : g.F.Folder.tells ≡ true → GivesEach (g.F.Folder.port l.initial.port) (g.F.Folder.port l.port) (sealed_chunks given);
-  counts : Counts g.F.Folder false l.initial.port l.port;
+  counts : CountsCall g.F.Folder false l.initial.port l.port;
 }
 
 abbrev pub decreases-loop-chunk : goal.decreases-loop-chunk

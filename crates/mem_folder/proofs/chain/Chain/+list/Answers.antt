@@ -3,7 +3,7 @@ use Rattle.std.proofs.lemmas.Result.{on_ok_weaker}
 use Rattle.hr_base.specs.declared.name.ChunkName.{ChunkName}
 use Rattle.mem_folder.specs.declared.chain.Slot.{Slot}
 use Rattle.dir_files.specs.Ports.{IsListing}
-use Rattle.mem_folder.specs.Memory.{held_names, port_of}
+use Rattle.mem_folder.specs.Memory.{held_names, memory_port}
 use Rattle.mem_folder.proofs.Slots.{slots_at_end, slots_at_more, tidy_at_more, first_absent}
 use Rattle.mem_folder.proofs.Listing.{IsListing-more, listing_at_end, added_at_end, added_held, added_none}
 use Rattle.mem_folder.proofs.chain.Chain.+list.Goals as goal
@@ -39,5 +39,5 @@ pub returns-after-is_some-clause-listing : goal.returns-after-is_some-clause-lis
 returns-after-is_some-clause-listing t c =
     let is = slots_at_more c.self.inside.link c.args.self.now c.in-More.slot c.in-More.rest c.self.view_is c.in-More.is in
     let tidy = tidy_at_more c.self.inside.link c.in-More.slot c.in-More.rest c.self.invariant c.in-More.is in
-    on_ok_weaker c.list.result (λ (listing : IsListing (port_of c.deref.result.now) (held_names c.deref.result.now)).
-    subst (λ (s : List Slot). IsListing (port_of s) (held_names s)) (sym is) (IsListing-more c.in-More.slot c.in-More.rest.value tidy.0 (first_absent c.in-More.rest.value c.in-More.slot.name tidy.1) (subst (λ (s : List Slot). IsListing (port_of s) (held_names s)) c.deref.ensures listing))) c.list.ensures.listing
+    on_ok_weaker c.list.result (λ (listing : IsListing (memory_port c.deref.result.now) (held_names c.deref.result.now)).
+    subst (λ (s : List Slot). IsListing (memory_port s) (held_names s)) (sym is) (IsListing-more c.in-More.slot c.in-More.rest.value tidy.0 (first_absent c.in-More.rest.value c.in-More.slot.name tidy.1) (subst (λ (s : List Slot). IsListing (memory_port s) (held_names s)) c.deref.ensures listing))) c.list.ensures.listing

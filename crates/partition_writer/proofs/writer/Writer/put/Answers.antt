@@ -1,4 +1,4 @@
-use Rattle.std.proofs.Common.{◌≡◌, ◌↔◌, ◌∙◌, ℕ, List, Some, None, true, ap, sym, subst, rules}
+use Rattle.std.proofs.Common.{◌≡◌, ◌↔◌, ℕ, Some, None, true, ap, sym, subst, rules}
 use Rattle.hr_base.specs.Entries.{Entries}
 use Rattle.record_format.specs.declared.record.Record.{Record}
 use Rattle.crash_law.specs.Accounts.{answered}
@@ -39,7 +39,7 @@ invariant_of-self-2 g c = record {
 pub returns-clause-account : goal.returns-clause-account
 returns-clause-account g c = λ tells b a h.
     let is : c.in_ok-rec.rec ≡ put_record c.args.self.now.next c.args.prefix c.args.key.now c.args.value.now =
-    c.in_ok-rec.ensures.ok ∙ ap (λ (v : List ℕ). put_record c.args.self.now.next c.args.prefix c.args.key.now v) c.in_ok-shared.ensures in
+    c.in_ok-rec.ensures.made in
     let before = subst (λ (m : Entries). Stands (with_maps (standing c.args.self.now) m) b a) (sym c.in_ok-own.ensures.entries) h in
     let after = c.in_ok-write.ensures.account tells b a before (ap (λ (r : Record). is_written (command_of r) c.reserve.new.self.entries) is) in
     subst (λ (m : Entries). Stands (with_maps (standing c.write.new.self) m) b (answered a (Put c.args.prefix c.args.key.now c.args.value.now))) (search rules)

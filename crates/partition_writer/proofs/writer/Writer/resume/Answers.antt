@@ -5,14 +5,15 @@ use Rattle.writer_chunks.specs.Lanes.{LaneState}
 use Rattle.writer_files.specs.Stocks.{lane_of}
 use Rattle.writer_files.specs.StockViews.{stock}
 use Rattle.partition_writer.proofs.StandLaws.{stand_resumed}
-use Rattle.partition_writer.proofs.FileLaws.{none_taken, some_not_none}
+use Rattle.dir_files.proofs.JoinLaws.{no_some}
+use Rattle.partition_writer.proofs.FileLaws.{none_taken}
 use Rattle.partition_writer.proofs.StockLaws.{none_own, none_ready, none_settled}
 use Rattle.partition_writer.proofs.writer.Writer.resume.Goals as goal
 
 pub invariant_of-result : goal.invariant_of-result
 invariant_of-result g c =
     let none = λ (class : Class) (chunk : Chunk) (is : (lane_of (stock c.new.result) class).taking ≡ Some chunk).
-    some_not_none (lane_of (stock c.new.result) class).taking chunk (ap (λ (lane : LaneState). lane.taking) (c.new.ensures.lanes class)) is in
+    no_some (lane_of (stock c.new.result) class).taking chunk (ap (λ (lane : LaneState). lane.taking) (c.new.ensures.lanes class)) is in
     record {
       partitioned = c.requires.partition;
       value_limit = c.requires.limits.value;
@@ -23,7 +24,7 @@ invariant_of-result g c =
       chunk_limited = c.requires.chunk_limited;
       own = none_own c.args.p (stock c.new.result) none;
       ready = λ running. none_ready (stock c.new.result) none;
-      below = λ tells running name file is. absurd (some_not_none _ file (c.new.ensures.files tells name) is);
+      below = λ tells running name file is. absurd (no_some _ file (c.new.ensures.files tells name) is);
       unlost = search rules;
       lengths = c.requires.lengths;
     }

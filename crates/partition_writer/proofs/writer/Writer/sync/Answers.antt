@@ -1,5 +1,5 @@
 use Rattle.std.proofs.Common.{rules, refl, ap}
-use Rattle.writer_chunks.proofs.FileLaws.{rises_same}
+use Rattle.dir_files.proofs.JoinLaws.{rises_same}
 use Rattle.writer_files.specs.StockViews.{stock}
 use Rattle.partition_writer.specs.WriterViews.{standing}
 use Rattle.partition_writer.proofs.LimitLaws.{some_halted}

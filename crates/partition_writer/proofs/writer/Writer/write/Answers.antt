@@ -9,7 +9,7 @@ use Rattle.crash_law.specs.Placed.{Placed}
 use Rattle.writer_files.specs.Stocks.{files_of}
 use Rattle.writer_files.specs.StockViews.{stock}
 use Rattle.partition_writer.specs.Standing.{chosen, placed, placed_in}
-use Rattle.partition_writer.specs.Storing.{NamesOwn, Adds, AddsEmpty, IsOpen, StoresIn, TakesIn}
+use Rattle.partition_writer.specs.Storing.{NamesOwn, AppendsTo, AddsEmpty, IsOpen, StoresIn, TakesIn}
 use Rattle.partition_writer.specs.WriterViews.{standing}
 use Rattle.hr_base.specs.declared.limits.TheConstants.{CHUNK_NO_END}
 use Rattle.hr_base.specs.declared.name.Partition.{Partition}
@@ -38,8 +38,8 @@ returns-in-Ok-clause-account g c = λ tells b a h is.
     })
     (subst (λ (n : ℕ). c.args.self.now.next_chunk ≤ n) (sym c.in-Ok.ensures.number) (number_after-least _ c.args.self.now.next_chunk))
     (c.args.self.now.unlost c.requires.running) (c.args.self.now.unlost c.requires.running) refl is
-    (subst (λ (n : ChunkName). Adds (files_of (stock c.args.self.now.files)) (files_of (stock c.store-stored.new.files)) n (spelling c.args.rec) (spelling c.args.rec)) chunk
-    (subst (λ (l : List ℕ). Adds (files_of (stock c.args.self.now.files)) (files_of (stock c.store-stored.new.files)) (chosen (stock c.args.self.now.files) c.args.class (length c.as_slice.result.now) c.limit-limit.result c.next_name-next.result) l l) bytes
+    (subst (λ (n : ChunkName). AppendsTo (files_of (stock c.args.self.now.files)) (files_of (stock c.store-stored.new.files)) n (spelling c.args.rec) (spelling c.args.rec)) chunk
+    (subst (λ (l : List ℕ). AppendsTo (files_of (stock c.args.self.now.files)) (files_of (stock c.store-stored.new.files)) (chosen (stock c.args.self.now.files) c.args.class (length c.as_slice.result.now) c.limit-limit.result c.next_name-next.result) l l) bytes
     (c.in-Ok.ensures.files tells)))
 
 pub returns-in-Err-Memory-clause-account : goal.returns-in-Err-Memory-clause-account
@@ -79,9 +79,9 @@ returns-in-Err-Fault-clause-account g c = λ tells b a h is.
     })
     (number_either _ _ _ c.store-stored.ensures.either_number)
     (c.args.self.now.unlost c.requires.running) refl refl
-    (subst (λ (n : ChunkName). ((k : ℕ) × Adds (files_of (stock c.args.self.now.files)) (files_of (stock c.store-stored.new.files)) n (spelling c.args.rec) (take k (spelling c.args.rec)))
+    (subst (λ (n : ChunkName). ((k : ℕ) × AppendsTo (files_of (stock c.args.self.now.files)) (files_of (stock c.store-stored.new.files)) n (spelling c.args.rec) (take k (spelling c.args.rec)))
     ⊎ ((files_of (stock c.args.self.now.files) n ≡ None) × (SameAt (files_of (stock c.args.self.now.files)) (files_of (stock c.store-stored.new.files)) ⊎ AddsEmpty (files_of (stock c.args.self.now.files)) (files_of (stock c.store-stored.new.files)) n))) chunk
-    (subst (λ (l : List ℕ). ((k : ℕ) × Adds (files_of (stock c.args.self.now.files)) (files_of (stock c.store-stored.new.files)) (chosen (stock c.args.self.now.files) c.args.class (length c.as_slice.result.now) c.limit-limit.result c.next_name-next.result) l (take k l))
+    (subst (λ (l : List ℕ). ((k : ℕ) × AppendsTo (files_of (stock c.args.self.now.files)) (files_of (stock c.store-stored.new.files)) (chosen (stock c.args.self.now.files) c.args.class (length c.as_slice.result.now) c.limit-limit.result c.next_name-next.result) l (take k l))
     ⊎ ((files_of (stock c.args.self.now.files) (chosen (stock c.args.self.now.files) c.args.class (length c.as_slice.result.now) c.limit-limit.result c.next_name-next.result) ≡ None) × (SameAt (files_of (stock c.args.self.now.files)) (files_of (stock c.store-stored.new.files)) ⊎ AddsEmpty (files_of (stock c.args.self.now.files)) (files_of (stock c.store-stored.new.files)) (chosen (stock c.args.self.now.files) c.args.class (length c.as_slice.result.now) c.limit-limit.result c.next_name-next.result)))) bytes
     (subst (λ (answer : Result (Unit {0}) FolderRefusal). StoresIn answer (files_of (stock c.args.self.now.files)) (files_of (stock c.store-stored.new.files))
     (chosen (stock c.args.self.now.files) c.args.class (length c.as_slice.result.now) c.limit-limit.result c.next_name-next.result) c.as_slice.result.now)

@@ -1,5 +1,0 @@
-use Rattle.hotrestart_cli.proofs.ScriptLaws.{unfit_script}
-use Rattle.hotrestart_cli.proofs.serve.play_script.Goals as goal
-
-pub returns-in-Ok-clause-spared : goal.returns-in-Ok-clause-spared
-returns-in-Ok-clause-spared g c unfit = absurd (unfit_script _ _ _ unfit c.in-Ok.ensures.found)
