@@ -316,6 +316,8 @@ class Command:
     printed_path: Path = None
     output: str = "kept"
     errors: list = None
+    # Texts that stand somewhere on standard error.
+    says: list = dataclasses.field(default_factory=list)
     status: int = 0
     # None where nothing is said: all files are as before.
     files: Files = None
@@ -362,8 +364,8 @@ class Reader:
                        "folder": self.add_folder, "+": self.add_pieces, "no": self.no_files}
         self.of_command = {"locked": self.lock_folder, "<": self.add_line, "unended": self.leave_unended,
                            "script": self.set_script, "input": self.set_input, ">": self.add_reply,
-                           "output": self.set_output, "!": self.add_error, "status": self.set_status,
-                           "as": self.keep_files, "any": self.take_any_files}
+                           "output": self.set_output, "!": self.add_error, "says": self.add_saying,
+                           "status": self.set_status, "as": self.keep_files, "any": self.take_any_files}
         if wrong:
             self.of_row |= {"differs": self.add_difference, "program": self.set_program, "seconds": self.set_seconds}
 
@@ -533,6 +535,11 @@ class Reader:
         if self.command.errors is None:
             self.command.errors = []
         self.command.errors.append(read_text(rest))
+
+    def add_saying(self, rest):
+        if not rest:
+            raise Unreadable("a text is missing that standard error says")
+        self.command.says.append(read_text(rest))
 
     def set_status(self, rest):
         if not re.fullmatch("[0-9]{1,3}", rest):
