@@ -115,7 +115,7 @@ faults 1
 holds p00-v-1 28 p01-v-1 -
 = a dump is cut where the sink fails
 play 0 put 7 a 1;0 put 7 b 2;0 sync;
-fails 0 9 on
+fails 0 999 on
 room 0
 dump
 prints 4 
@@ -128,7 +128,7 @@ prints 4 0 7 a 1;0 7 b 2
 room 16
 dump
 prints 0 0 7 a 1;0 7 b 2;
-holds p00-v-1 50
+holds p00-v-1 52
 = the first file is not created
 fails 1 1 alone
 play 0 put 5 k1 v1;0 sync;

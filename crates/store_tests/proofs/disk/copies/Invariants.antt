@@ -4,4 +4,4 @@ use Rattle.store_tests.proofs.disk.copies.Given as goal
 
 -- the names so far are names of chunks
 abbrev pub invariant-loop-name : goal.invariant-loop-name
-invariant-loop-name g l = All (λ file. IsChunkName file.0) l.files.items
+invariant-loop-name l = All (λ file. IsChunkName file.0) l.files.items
