@@ -1,16 +1,15 @@
-//! A folder on a disk: which calls of the system its calls make, and what they make of real files. Helpers promise
-//! nothing.
+//! A folder on a disk: which calls of the system its calls make, and what they make of real files. What makes the calls
+//! knows of no folder in particular, so that it is proved once.
 
 ghost use Rattle.std.specs.Prelude.{◌≡◌, false};
-ghost use Rattle.hr_base.specs.Names.{IsChunkName};
 
-use crate::watched::{Handle, System};
+use super::expecting::{expect, expect_text};
+use crate::watched::System;
 use dir_files::{Folder, FolderRefusal, RemoveRefusal};
-use hr_base::{ChunkName, ChunkNo, Kind, Memory, Partition};
+use hr_base::{ChunkName, ChunkNo, Kind, Partition};
 use real_folder::{LockFile, RealFile, RealFolder};
 use std::alloc::{AllocError, Global};
 use std::os::unix::fs::FileExt;
-use std::process::Abort;
 use std::rt::Files;
 use std::test::Fail;
 use std::{env, fs, io, mem, process};
@@ -23,72 +22,155 @@ const NAME: ChunkName = ChunkName {
 
 const FILE: &str = "p03-v-0000000000000007.chunk";
 
-// ---- one call each
-
-fn take<F: Folder>(disk: &mut F) -> Result<F::File, FolderRefusal>
-    requires { F.tells ≡ false }
-{
-    disk.take(NAME)
-}
-
-fn create<F: Folder>(disk: &mut F) -> Result<F::File, FolderRefusal>
-    requires { F.tells ≡ false }
-{
-    disk.create(NAME)
-}
-
-fn append<F: Folder>(disk: &mut F, file: &mut F::File, piece: &[u8]) -> Result<(), FolderRefusal> {
-    disk.append(file, piece)
-}
-
-fn sync_file<F: Folder>(disk: &mut F, file: &mut F::File) -> Result<(), FolderRefusal> {
-    disk.sync_file(file)
-}
-
-fn sync_names<F: Folder>(disk: &mut F) -> Result<(), FolderRefusal> {
-    disk.sync_names()
-}
-
-fn names<F: Folder>(disk: &mut F) -> Result<Vec<ChunkName>, FolderRefusal> {
-    disk.names()
-}
-
-fn mark<F: Folder>(disk: &F, file: &mut F::File) -> bool {
-    disk.mark(file)
-}
-
-/// Reads four bytes at most.
-fn read<F: Folder>(
-    disk: &mut F,
-    file: &mut F::File,
-    at: u64,
-) -> Result<([u8; 4], usize), FolderRefusal> {
-    let mut buffer = [0u8; 4];
-    let count = disk.read(file, at, &mut buffer)?;
-    Ok((buffer, count))
-}
-
-/// Removes a file, and gives a handle that came back.
-fn remove<F: Folder>(disk: &mut F, file: F::File) -> Result<Option<F::File>, FolderRefusal> {
-    match disk.remove(file) {
-        Ok(()) => Ok(None),
-        Err(RemoveRefusal::Memory(file)) => Ok(Some(file)),
-        Err(RemoveRefusal::Fault) => Err(FolderRefusal::Fault),
+/// What a refusal is told as. Memory is never wanting.
+fn refused(refusal: FolderRefusal) -> Result<&'static str, Fail> {
+    match refusal {
+        FolderRefusal::Fault => Ok("FAULT"),
+        FolderRefusal::Memory => Err("no memory".into()),
     }
 }
 
-fn give<F: Folder>(disk: &mut F, file: F::File) {
-    disk.give(file);
+/// What an answer is told as.
+fn told(answer: Result<(), FolderRefusal>) -> Result<&'static str, Fail> {
+    match answer {
+        Ok(()) => Ok(""),
+        Err(refusal) => refused(refusal),
+    }
 }
 
-fn fork<F: Folder>(disk: &mut F) -> Result<F, Memory> {
-    disk.fork()
+/// The port that calls are made at, those that it was forked from, and a file in hand.
+#[derive(Drop)]
+struct Bench<F: Folder> {
+    port: F,
+    above: Vec<F>,
+    file: Option<F::File>,
+    // The bytes that were read last.
+    read: Vec<u8>,
 }
 
-fn adopt<F: Folder>(disk: &mut F, other: F)
-    requires { F.tells ≡ false }
-{
-    disk.adopt(other);
+impl<F: Folder + Drop> Bench<F> {
+    fn over(alloc: Global, port: F) -> Bench<F> {
+        Bench {
+            port,
+            above: Vec::new(alloc),
+            file: None,
+            read: Vec::new(alloc),
+        }
+    }
+
+    /// Reads four bytes at most behind those that were read.
+    fn read(&mut self) -> Result<&'static str, Fail> {
+        let mut room = [0u8; 4];
+        let file = self.file.as_mut().ok_or("no file")?;
+        match self.port.read(file, self.read.len() as u64, &mut room) {
+            Ok(count) => {
+                self.read.extend_from_slice(room.get(..count).ok_or("too many")?)?;
+                Ok("")
+            }
+            Err(refusal) => refused(refusal),
+        }
+    }
+
+    /// Makes a call of the file in hand.
+    fn call_file(&mut self, call: &str) -> Result<&'static str, Fail> {
+        let file = self.file.as_mut().ok_or("no file")?;
+        match call {
+            "append" => told(self.port.append(file, b"bytes")),
+            "end" => told(self.port.append(file, b"!")),
+            "sync" => told(self.port.sync_file(file)),
+            "mark" => Ok(if self.port.mark(file) { "FIXED" } else { "LOOSE" }),
+            _ => Err("no such call".into()),
+        }
+    }
+
+    /// Takes or makes a file.
+    fn begin(&mut self, takes: bool) -> Result<&'static str, Fail>
+        requires { F.tells ≡ false }
+    {
+        let begun = if takes {
+            self.port.take(NAME)
+        } else {
+            self.port.create(NAME)
+        };
+        match begun {
+            Ok(file) => {
+                self.file = Some(file);
+                Ok("")
+            }
+            Err(refusal) => refused(refusal),
+        }
+    }
+
+    /// Removes the file in hand, or gives it back.
+    fn end(&mut self, removes: bool) -> Result<&'static str, Fail> {
+        let file = self.file.take().ok_or("no file")?;
+        if !removes {
+            self.port.give(file);
+            return Ok("");
+        }
+        match self.port.remove(file) {
+            Ok(()) => Ok(""),
+            Err(RemoveRefusal::Fault) => Ok("FAULT"),
+            Err(RemoveRefusal::Memory(_)) => Err("no memory".into()),
+        }
+    }
+
+    /// How many names are listed.
+    fn list(&mut self) -> Result<&'static str, Fail> {
+        match self.port.names() {
+            Ok(names) if names.is_empty() => Ok("NONE"),
+            Ok(names) if names.as_slice() == [NAME].as_slice() => Ok("ONE"),
+            Ok(_) => Ok("OTHERS"),
+            Err(refusal) => refused(refusal),
+        }
+    }
+
+    /// From here on calls are made at a fork.
+    fn fork(&mut self) -> Result<&'static str, Fail> {
+        let fork = self.port.fork()?;
+        self.above.push(mem::replace(&mut self.port, fork))?;
+        Ok("")
+    }
+
+    /// The port that was forked adopts the fork, and calls are made there again.
+    fn adopt(&mut self) -> Result<&'static str, Fail>
+        requires { F.tells ≡ false }
+    {
+        let above = self.above.pop().ok_or("no fork")?;
+        let fork = mem::replace(&mut self.port, above);
+        self.port.adopt(fork);
+        Ok("")
+    }
+
+    /// Makes a call, and answers what it told.
+    fn call(&mut self, call: &str) -> Result<&'static str, Fail>
+        requires { F.tells ≡ false }
+    {
+        match call {
+            "take" => self.begin(true),
+            "create" => self.begin(false),
+            "read" => self.read(),
+            "give" => self.end(false),
+            "remove" => self.end(true),
+            "names" => told(self.port.sync_names()),
+            "list" => self.list(),
+            "fork" => self.fork(),
+            "adopt" => self.adopt(),
+            _ => self.call_file(call),
+        }
+    }
+
+    /// Makes calls, and compares what they told.
+    fn expect(&mut self, calls: &str, wanted: &str) -> Result<(), Fail>
+        requires { F.tells ≡ false }
+    {
+        let mut seen = String::new(*self.read.allocator());
+        for call in calls.split(' ') {
+            seen.push_str(self.call(call)?)?;
+            seen.push(';')?;
+        }
+        expect_text(seen.as_bytes(), wanted.as_bytes(), calls)
+    }
 }
 
 /// What a port tells of its faults: how often the disk failed, and how it did first.
@@ -107,195 +189,9 @@ where
 
 // ---- the calls of the system
 
-type Watched = RealFolder<System>;
-
-#[derive(Clone, Copy)]
-enum Call {
-    Take,
-    Create,
-    Append,
-    Sync,
-    Read,
-    Mark,
-    Give,
-    Remove,
-    Names,
-    List,
-    Fork,
-    Adopt,
-    /// How often the disk failed, and how it did first.
-    Faults,
-    /// From here on the system refuses this call of its own, and no other.
-    Refuse(&'static str),
-}
-
-const CALLS: [(&str, Call); 21] = [
-    ("take", Call::Take),
-    ("create", Call::Create),
-    ("append", Call::Append),
-    ("sync", Call::Sync),
-    ("read", Call::Read),
-    ("mark", Call::Mark),
-    ("give", Call::Give),
-    ("remove", Call::Remove),
-    ("names", Call::Names),
-    ("list", Call::List),
-    ("fork", Call::Fork),
-    ("adopt", Call::Adopt),
-    ("faults", Call::Faults),
-    ("-none", Call::Refuse("")),
-    ("-open", Call::Refuse("open")),
-    ("-lock", Call::Refuse("lock")),
-    ("-new", Call::Refuse("new")),
-    ("-write", Call::Refuse("write")),
-    ("-fdatasync", Call::Refuse("fdatasync")),
-    ("-fsync", Call::Refuse("fsync")),
-    ("-unlink", Call::Refuse("unlink")),
-];
-
-fn call_named(word: &str) -> Option<Call> {
-    for (name, call) in CALLS {
-        if name == word {
-            return Some(call);
-        }
-    }
-    None
-}
-
-/// The port that calls are made at, those that it was forked from, and a handle.
-#[derive(Drop)]
-struct Bench {
-    system: System,
-    port: Watched,
-    above: Vec<Watched>,
-    file: Option<RealFile<Handle>>,
-}
-
-/// Writes down a refusal.
-fn told<T: Drop>(system: &System, answer: Result<T, FolderRefusal>) -> Option<T> {
-    match answer {
-        Ok(value) => Some(value),
-        Err(FolderRefusal::Memory) => {
-            system.note("MEMORY");
-            None
-        }
-        Err(FolderRefusal::Fault) => {
-            system.note("FAULT");
-            None
-        }
-    }
-}
-
-impl Bench {
-    fn new(rt: &impl AllocGlobal) -> Result<Bench, AllocError> {
-        let system = System::new(rt.alloc())?;
-        let path = String::from_str(rt.alloc(), "maps")?;
-        Ok(Bench {
-            port: RealFolder::at(system.clone()?, path),
-            above: Vec::new(rt.alloc()),
-            system,
-            file: None,
-        })
-    }
-
-    fn take(&mut self) {
-        self.file = told(&self.system, take(&mut self.port));
-    }
-
-    fn create(&mut self) {
-        self.file = told(&self.system, create(&mut self.port));
-    }
-
-    fn append(&mut self) {
-        if let Some(file) = &mut self.file {
-            told(&self.system, append(&mut self.port, file, b"bytes"));
-        }
-    }
-
-    fn sync_file(&mut self) {
-        if let Some(file) = &mut self.file {
-            told(&self.system, sync_file(&mut self.port, file));
-        }
-    }
-
-    fn read(&mut self) {
-        if let Some(file) = &mut self.file {
-            told(&self.system, read(&mut self.port, file, 0));
-        }
-    }
-
-    fn mark(&mut self) {
-        if let Some(file) = &mut self.file {
-            let is_fixed = mark(&self.port, file);
-            self.system.note(if is_fixed { "FIXED" } else { "LOOSE" });
-        }
-    }
-
-    fn give(&mut self) {
-        if let Some(file) = self.file.take() {
-            give(&mut self.port, file);
-        }
-    }
-
-    fn remove(&mut self) {
-        if let Some(file) = self.file.take() {
-            self.file = told(&self.system, remove(&mut self.port, file)).flatten();
-        }
-    }
-
-    fn sync_names(&mut self) {
-        told(&self.system, sync_names(&mut self.port));
-    }
-
-    fn names(&mut self) {
-        told(&self.system, names(&mut self.port));
-    }
-
-    /// From here on calls are made at a fork.
-    fn fork(&mut self) -> Result<(), Fail> {
-        let fork = fork(&mut self.port)?;
-        self.above.push(mem::replace(&mut self.port, fork))?;
-        Ok(())
-    }
-
-    /// The port that was forked adopts the fork, and calls are made there again.
-    fn adopt(&mut self) {
-        if let Some(above) = self.above.pop() {
-            let fork = mem::replace(&mut self.port, above);
-            adopt(&mut self.port, fork);
-        }
-    }
-
-    fn faults(&self) -> Result<(), AllocError> {
-        let text = faults_of(self.system.alloc(), &self.port)?;
-        self.system.note(text.as_str());
-        Ok(())
-    }
-
-    /// Makes one call.
-    fn call(&mut self, call: Call) -> Result<(), Fail> {
-        match call {
-            Call::Take => self.take(),
-            Call::Create => self.create(),
-            Call::Append => self.append(),
-            Call::Sync => self.sync_file(),
-            Call::Read => self.read(),
-            Call::Mark => self.mark(),
-            Call::Give => self.give(),
-            Call::Remove => self.remove(),
-            Call::Names => self.sync_names(),
-            Call::List => self.names(),
-            Call::Fork => self.fork()?,
-            Call::Adopt => self.adopt(),
-            Call::Faults => self.faults()?,
-            Call::Refuse(what) => self.system.refuse(what),
-        }
-        Ok(())
-    }
-}
-
 /// The calls of a row, and what is written down then: after each call and `=` the calls of the system that it made, and
-/// what else it told.
+/// what else it told. `faults` tells how often the disk failed and how it did first; from `-CALL` on the system refuses this
+/// call of its own, and no other.
 #[derive(Clone, Copy)]
 struct Row {
     name: &'static str,
@@ -303,15 +199,41 @@ struct Row {
     wanted: &'static str,
 }
 
-/// Makes a row's calls, and gives what was written down.
-fn play(rt: &impl AllocGlobal, calls: &str) -> Result<String, Fail> {
-    let mut bench = Bench::new(rt)?;
-    for word in calls.split(' ') {
-        bench.system.note(word);
-        bench.system.note("=");
-        bench.call(call_named(word).ok_or("no call")?)?;
+/// Makes a call, and writes down what it told.
+fn make<F: Folder + Drop>(system: &System, bench: &mut Bench<F>, word: &str) -> Result<(), Fail>
+    requires { F.tells ≡ false }
+{
+    if let Some(call) = word.strip_prefix("-") {
+        system.refuse(call)?;
+        return Ok(());
     }
-    Ok(bench.system.told())
+    let said = bench.call(word)?;
+    if !said.is_empty() {
+        system.note(said);
+    }
+    Ok(())
+}
+
+/// Makes a call of a row.
+fn step(system: &System, bench: &mut Bench<RealFolder<System>>, word: &str) -> Result<(), Fail> {
+    match word {
+        "faults" => system.note(faults_of(system.alloc(), &bench.port)?.as_str()),
+        _ => make(system, bench, word)?,
+    }
+    Ok(())
+}
+
+/// Makes a row's calls, and gives what was written down.
+fn play(alloc: Global, calls: &str) -> Result<String, Fail> {
+    let system = System::new(alloc)?;
+    let path = String::from_str(alloc, "maps")?;
+    let mut bench = Bench::over(alloc, RealFolder::at(system.clone()?, path));
+    for word in calls.split(' ') {
+        system.note(word);
+        system.note("=");
+        step(&system, &mut bench, word)?;
+    }
+    Ok(system.told())
 }
 
 const ROWS: [Row; 16] = [
@@ -333,7 +255,7 @@ const ROWS: [Row; 16] = [
     Row {
         name: "a file that is read stays open up to its sync",
         calls: "names list take read sync give",
-        wanted: " names = open lock fsync list = readdir take = read = open read sync = fdatasync close give =",
+        wanted: " names = open lock fsync list = readdir NONE take = read = open read sync = fdatasync close give =",
     },
     Row {
         name: "a file that is closed is synced",
@@ -400,8 +322,8 @@ const ROWS: [Row; 16] = [
 #[test]
 fn each_call_makes_its_calls_of_the_system(rt: HostRuntime) -> Result<(), Fail> {
     for row in ROWS {
-        let seen = play(&rt, row.calls)?;
-        assert_eq!(rt; seen.as_str(), row.wanted, "{}", row.name);
+        let seen = play(rt.alloc(), row.calls)?;
+        expect_text(seen.as_bytes(), row.wanted.as_bytes(), row.name)?;
     }
     Ok(())
 }
@@ -415,16 +337,28 @@ fn count_closed(system: &System) -> usize {
         .count()
 }
 
-/// A file with a record, synced at a port.
-fn write_one(disk: &mut Watched) -> Result<RealFile<Handle>, FolderRefusal> {
-    let mut file = create(disk)?;
-    append_and_sync(disk, &mut file)?;
-    Ok(file)
+fn append_and_sync<F: Folder>(disk: &mut F, file: &mut F::File) -> Result<(), FolderRefusal> {
+    disk.append(file, b"bytes")?;
+    disk.sync_file(file)
 }
 
-fn append_and_sync(disk: &mut Watched, file: &mut RealFile<Handle>) -> Result<(), FolderRefusal> {
-    append(disk, file, b"bytes")?;
-    sync_file(disk, file)
+/// Files with a record each, synced at two ports in turn.
+fn write_files<F: Folder>(
+    alloc: Global,
+    root: &mut F,
+    other: &mut F,
+    count: usize,
+) -> Result<Vec<F::File>, Fail>
+    requires { F.tells ≡ false }
+{
+    let mut files = Vec::new(alloc);
+    for i in 0..count {
+        let port = if i % 2 == 0 { &mut *root } else { &mut *other };
+        let mut file = port.create(NAME)?;
+        append_and_sync(port, &mut file)?;
+        files.push(file)?;
+    }
+    Ok(files)
 }
 
 /// Two ports and 70 files that take records.
@@ -432,30 +366,23 @@ fn append_and_sync(disk: &mut Watched, file: &mut RealFile<Handle>) -> Result<()
 fn handles_keep_64_descriptors_at_all_ports_together(rt: HostRuntime) -> Result<(), Fail> {
     let system = System::new(rt.alloc())?;
     let mut root = RealFolder::at(system.clone()?, String::new(rt.alloc()));
-    let mut other = fork(&mut root)?;
-    let mut files = Vec::new(rt.alloc());
-    for _ in 0..35 {
-        files.push(write_one(&mut root)?)?;
-        files.push(write_one(&mut other)?)?;
-    }
-    assert_eq!(rt; count_closed(&system), 6);
+    let mut other = root.fork()?;
+    let mut files = write_files(rt.alloc(), &mut root, &mut other, 70)?;
+    expect(count_closed(&system) == 6, "70 files")?;
     let mut last = files.pop().ok_or("none")?;
     append_and_sync(&mut other, &mut last)?;
-    assert_eq!(rt; count_closed(&system), 1, "past the limit");
+    expect(count_closed(&system) == 1, "past the limit")?;
     files.truncate(63);
-    assert_eq!(rt; count_closed(&system), 1, "one is let go");
+    expect(count_closed(&system) == 1, "one is let go")?;
     append_and_sync(&mut root, &mut last)?;
     append_and_sync(&mut other, &mut last)?;
-    assert_eq!(rt; count_closed(&system), 0, "within the limit again");
-    give(&mut other, last);
+    expect(count_closed(&system) == 0, "within the limit again")?;
+    other.give(last);
     drop(files);
-    assert_eq!(rt; count_closed(&system), 64);
-    Ok(())
+    expect(count_closed(&system) == 64, "all")
 }
 
 // ---- real files
-
-type Disk = RealFolder<HostRuntime>;
 
 /// The path of an empty folder that no other test has.
 fn scratch(rt: &HostRuntime, test: &str) -> io::Result<String> {
@@ -466,8 +393,11 @@ fn scratch(rt: &HostRuntime, test: &str) -> io::Result<String> {
     Ok(path.into_string())
 }
 
-fn port(rt: &HostRuntime, path: &String) -> io::Result<Disk> {
-    Ok(RealFolder::at(rt.clone()?, path.clone()?))
+type Disk = RealFolder<HostRuntime>;
+
+fn port(rt: &HostRuntime, path: &String) -> io::Result<Bench<Disk>> {
+    let port = RealFolder::at(rt.clone()?, path.clone()?);
+    Ok(Bench::over(rt.alloc(), port))
 }
 
 fn path_in(rt: &HostRuntime, folder: &String, file: &str) -> io::Result<String> {
@@ -477,46 +407,6 @@ fn path_in(rt: &HostRuntime, folder: &String, file: &str) -> io::Result<String> 
 /// How many descriptors this process holds, the one that counts them included.
 fn count_open(rt: &HostRuntime) -> io::Result<usize> {
     Ok(fs::read_dir(rt, "/proc/self/fd")?.count())
-}
-
-/// Makes a file of nine bytes, and gives it back.
-fn write_nine(disk: &mut Disk) -> Result<(), FolderRefusal> {
-    let mut file = create(disk)?;
-    append(disk, &mut file, b"five ")?;
-    append(disk, &mut file, b"six")?;
-    sync_file(disk, &mut file)?;
-    append(disk, &mut file, b"!")?;
-    sync_names(disk)?;
-    give(disk, file);
-    Ok(())
-}
-
-/// Reads a piece of at most four bytes, and checks it.
-fn expect_piece(
-    rt: &impl Abort,
-    disk: &mut Disk,
-    file: &mut RealFile<fs::File>,
-    at: u64,
-    wanted: &[u8],
-) -> Result<(), FolderRefusal> {
-    let (buffer, count) = read(disk, file, at)?;
-    assert_eq!(rt; buffer.get(..count), Some(wanted), "at {at}");
-    Ok(())
-}
-
-/// Reads the nine bytes in pieces up to the end, and adds one.
-fn read_nine_and_add(
-    rt: &impl Abort,
-    disk: &mut Disk,
-) -> Result<RealFile<fs::File>, FolderRefusal> {
-    let mut file = take(disk)?;
-    for (at, wanted) in [(0, "five"), (4, " six"), (8, "!"), (9, "")] {
-        expect_piece(rt, disk, &mut file, at, wanted.as_bytes())?;
-    }
-    sync_file(disk, &mut file)?;
-    append(disk, &mut file, b"?")?;
-    expect_piece(rt, disk, &mut file, 6, b"ix!?")?;
-    Ok(file)
 }
 
 fn goes_to_a_thread<T: Send>(_it: &T) {}
@@ -534,66 +424,75 @@ where
     goes_to_a_thread(port);
 }
 
-#[test]
-fn a_file_is_written_found_read_and_removed(rt: HostRuntime) -> Result<(), Fail> {
-    let path = scratch(&rt, "goes")?;
+/// Other files, which are no chunks.
+fn write_others(rt: &HostRuntime, path: &String) -> io::Result<()> {
     for other in [
         "notes",
         "p03-v-0000000000000007.chunl",
         "p64-v-0000000000000007.chunk",
     ] {
-        fs::write(&rt, path_in(&rt, &path, other)?, "other")?;
+        fs::write(rt, path_in(rt, path, other)?, "other")?;
     }
-    let mut disk = port(&rt, &path)?;
-    write_nine(&mut disk)?;
-    assert_eq!(rt; names(&mut disk)?.as_slice(), [NAME].as_slice());
+    Ok(())
+}
+
+#[test]
+fn a_file_is_written_found_read_and_removed(rt: HostRuntime) -> Result<(), Fail> {
+    let path = scratch(&rt, "goes")?;
+    write_others(&rt, &path)?;
+    let mut bench = port(&rt, &path)?;
+    bench.expect("create append end sync append names give list", ";;;;;;;ONE;")?;
     let before = count_open(&rt)?;
-    let file = read_nine_and_add(&rt, &mut disk)?;
-    handle_goes(&file);
-    port_goes(&disk);
-    assert_eq!(rt; count_open(&rt)?, before.saturating_add(1), "an open file");
+    bench.expect("take read read read read sync end read", ";;;;;;;;")?;
+    expect_text(bench.read.as_slice(), b"bytes!bytes!", "what was read")?;
+    if let Some(file) = &bench.file {
+        handle_goes(file);
+    }
+    port_goes(&bench.port);
+    expect(count_open(&rt)? == before.saturating_add(1), "an open file")?;
     let bytes = fs::read(&rt, path_in(&rt, &path, FILE)?)?;
-    assert_eq!(rt; bytes.as_slice(), b"five six!?".as_slice());
-    assert!(rt; create(&mut disk).is_err(), "it is there");
-    assert!(rt; remove(&mut disk, file)?.is_none());
-    assert_eq!(rt; count_open(&rt)?, before, "it is closed");
-    assert!(rt; names(&mut disk)?.is_empty());
+    expect_text(bytes.as_slice(), b"bytes!bytes!", "the file")?;
+    bench.expect("remove list", ";NONE;")?;
+    expect(count_open(&rt)? == before, "it is closed")?;
+    bench.expect("create give create list", ";;FAULT;ONE;")?;
     let text = "1 create p03-v-0000000000000007.chunk: File exists (os error 17)";
-    assert_eq!(rt; faults_of(rt.alloc(), &disk)?.as_str(), text);
-    assert_eq!(rt; fs::read_dir(&rt, path.as_str())?.count(), 3, "other files");
+    expect_text(
+        faults_of(rt.alloc(), &bench.port)?.as_bytes(),
+        text.as_bytes(),
+        "the error",
+    )?;
+    expect(fs::read_dir(&rt, path.as_str())?.count() == 4, "other files")?;
     fs::remove_dir_all(&rt, path)?;
     Ok(())
 }
 
-/// A second root over a folder, as another program has it: at each step how many names it lists, or that it can't.
+/// A second root over a folder, as another program has it: what its calls tell at each step.
 #[test]
 fn one_root_at_a_time_works_on_a_folder(rt: HostRuntime) -> Result<(), Fail> {
     let path = scratch(&rt, "lock")?;
     let mut first = port(&rt, &path)?;
     let mut second = port(&rt, &path)?;
-    write_nine(&mut second)?;
-    assert!(rt; names(&mut first).is_err(), "the second has the lock");
-    assert!(rt; create(&mut first).is_err());
-    let taken = format!(in rt.alloc(); "2 lock {path}: another program works on the folder")?;
-    assert_eq!(rt; faults_of(rt.alloc(), &first)?.as_str(), taken.as_str());
-    let mut other = fork(&mut second)?;
+    second.expect("create append sync names give list", ";;;;;ONE;")?;
+    first.expect("list create names", "FAULT;FAULT;FAULT;")?;
+    let taken = format!(in rt.alloc(); "3 lock {path}: another program works on the folder")?;
+    expect_text(
+        faults_of(rt.alloc(), &first.port)?.as_bytes(),
+        taken.as_bytes(),
+        "the error",
+    )?;
+    let mut other = Bench::over(rt.alloc(), second.port.fork()?);
     drop(second);
-    assert!(rt; names(&mut first).is_err(), "its fork has the lock");
-    assert_eq!(rt; names(&mut other)?.len(), 1);
-    let mut barred = fork(&mut first)?;
+    first.expect("list", "FAULT;")?;
+    other.expect("list", "ONE;")?;
+    // A fork that was made without the lock goes on without it.
+    first.expect("fork", ";")?;
     drop(other);
-    assert_eq!(rt; names(&mut first)?.len(), 1, "the lock is free");
-    assert!(rt; names(&mut barred).is_err(), "it was made without a lock");
-    adopt(&mut first, barred);
-    assert!(rt;
-        sync_names(&mut port(&rt, &path)?).is_err(),
-        "the first has the lock"
-    );
-    assert_eq!(rt;
-        fs::read_dir(&rt, path.as_str())?.count(),
-        1,
-        "no file for the lock"
-    );
+    first.expect("list adopt list", "FAULT;;ONE;")?;
+    port(&rt, &path)?.expect("names", "FAULT;")?;
+    expect(
+        fs::read_dir(&rt, path.as_str())?.count() == 1,
+        "no file for the lock",
+    )?;
     fs::remove_dir_all(&rt, path)?;
     Ok(())
 }

@@ -2,7 +2,7 @@
 
 use real_folder::LockFile;
 use std::alloc::{AllocError, Allocator, Global};
-use std::cell::{Cell, RefCell};
+use std::cell::RefCell;
 use std::fs::{Metadata, OpenFile, OpenOptions, TryLockError};
 use std::io::{self, ErrorKind, Read, Seek, SeekFrom, Write};
 use std::os::unix::fs::FileExt;
@@ -13,7 +13,7 @@ use std::rt::Files;
 #[derive(Drop)]
 struct Watch {
     calls: RefCell<String>,
-    refused: Cell<&'static str>,
+    refused: RefCell<String>,
 }
 
 impl Watch {
@@ -24,12 +24,12 @@ impl Watch {
         }
     }
 
-    fn ask(&self, call: &'static str) -> io::Result<()> {
+    fn ask(&self, call: &str) -> io::Result<()> {
         self.note(call);
-        if self.refused.get() == call {
-            return Err(io::Error::from_raw_os_error(5));
+        match self.refused.try_borrow() {
+            Ok(refused) if refused.as_str() == call => Err(io::Error::from_raw_os_error(5)),
+            _ => Ok(()),
         }
-        Ok(())
     }
 }
 
@@ -43,7 +43,7 @@ impl System {
     pub(crate) fn new(alloc: Global) -> Result<System, AllocError> {
         let watch = Watch {
             calls: RefCell::new(String::new(alloc)),
-            refused: Cell::new(""),
+            refused: RefCell::new(String::new(alloc)),
         };
         Ok(System {
             alloc,
@@ -52,8 +52,10 @@ impl System {
     }
 
     /// From now on the calls of this kind are refused, and no others.
-    pub(crate) fn refuse(&self, call: &'static str) {
-        self.watch.refused.set(call);
+    pub(crate) fn refuse(&self, call: &str) -> Result<(), AllocError> {
+        let call = String::from_str(self.alloc, call)?;
+        let _before = self.watch.refused.try_replace(call);
+        Ok(())
     }
 
     /// Writes down something beside the calls.
