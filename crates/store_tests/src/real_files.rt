@@ -64,7 +64,8 @@ impl<F: Folder + Drop> Bench<F> {
         let file = self.file.as_mut().ok_or("no file")?;
         match self.port.read(file, self.read.len() as u64, &mut room) {
             Ok(count) => {
-                self.read.extend_from_slice(room.get(..count).ok_or("too many")?)?;
+                self.read
+                    .extend_from_slice(room.get(..count).ok_or("too many")?)?;
                 Ok("")
             }
             Err(refusal) => refused(refusal),
@@ -78,7 +79,11 @@ impl<F: Folder + Drop> Bench<F> {
             "append" => told(self.port.append(file, b"bytes")),
             "end" => told(self.port.append(file, b"!")),
             "sync" => told(self.port.sync_file(file)),
-            "mark" => Ok(if self.port.mark(file) { "FIXED" } else { "LOOSE" }),
+            "mark" => Ok(if self.port.mark(file) {
+                "FIXED"
+            } else {
+                "LOOSE"
+            }),
             _ => Err("no such call".into()),
         }
     }
@@ -441,7 +446,10 @@ fn a_file_is_written_found_read_and_removed(rt: HostRuntime) -> Result<(), Fail>
     let path = scratch(&rt, "goes")?;
     write_others(&rt, &path)?;
     let mut bench = port(&rt, &path)?;
-    bench.expect("create append end sync append names give list", ";;;;;;;ONE;")?;
+    bench.expect(
+        "create append end sync append names give list",
+        ";;;;;;;ONE;",
+    )?;
     let before = count_open(&rt)?;
     bench.expect("take read read read read sync end read", ";;;;;;;;")?;
     expect_text(bench.read.as_slice(), b"bytes!bytes!", "what was read")?;
@@ -461,7 +469,10 @@ fn a_file_is_written_found_read_and_removed(rt: HostRuntime) -> Result<(), Fail>
         text.as_bytes(),
         "the error",
     )?;
-    expect(fs::read_dir(&rt, path.as_str())?.count() == 4, "other files")?;
+    expect(
+        fs::read_dir(&rt, path.as_str())?.count() == 4,
+        "other files",
+    )?;
     fs::remove_dir_all(&rt, path)?;
     Ok(())
 }
