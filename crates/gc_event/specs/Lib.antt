@@ -1,0 +1,5 @@
+pub mod Notes
+pub mod Events
+pub mod Books
+pub mod Live
+pub mod Worked
