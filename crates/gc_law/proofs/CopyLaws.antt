@@ -1,0 +1,201 @@
+-- Copies lie whole in their copy files until they are secured.
+use Rattle.std.specs.Prelude.{◌≡◌, ℕ, ◌==◌, ◌&&◌, Bool, true, false, cond, if◌then◌else◌, List, [], ◌∷◌, ◌++◌, length, map, All, Option, Some, None, is_some, refl}
+use Rattle.std.proofs.Common.{sym, ◌∙◌, ap, subst, inl, inr, arith, true≢false}
+use Rattle.std.specs.List.{AllByRecursion}
+use Rattle.std.proofs.lemmas.Bool.{and_parts}
+use Rattle.std.proofs.lemmas.List.{append-nil}
+use Rattle.std.proofs.lemmas.List.Elements.{All-from_recursion, recursion_from_All}
+use Rattle.std.proofs.lemmas.Grind.{flat_map-append}
+use Rattle.hr_base.specs.declared.name.ChunkName.{ChunkName}
+use Rattle.hr_base.specs.Names.{class_of_kind}
+use Rattle.hr_base.proofs.NameTestLaws.{same_name_or_not}
+use Rattle.dir_files.specs.Files.{FileState, Files, Rises, IsDurable, with_bytes}
+use Rattle.record_format.specs.declared.record.Record.{Record}
+use Rattle.record_format.specs.Spelling.{seq_of, spelling, spellings}
+use Rattle.record_format.specs.Splits.{Splits, IsOfClass}
+use Rattle.record_format.proofs.SplitLaws.{one_split, whole_spellings_split, nothing_is_torn}
+use Rattle.crash_law.specs.Numbered.{IsIn}
+use Rattle.crash_law.proofs.PlacedLaws.{in_left, in_right}
+use Rattle.gc_law.specs.Events.{NotedEvent, RecordEvent, notes, IsTelling}
+use Rattle.gc_law.specs.Tells.{Gathered, IsSafeAt}
+use Rattle.gc_law.proofs.EventLaws.{one_of_append, one_of_left, notes-append}
+use Rattle.gc_event.specs.Notes.{IsOneOf, Identity, identity_of, Note, Own, Dead, is_own, number_of}
+use Rattle.gc_event.specs.Books.{Entry, Book, with_place, entry_of, heard_in, last_in, copy_of, copied_in, is_waiting, settled, moved_in}
+use Rattle.gc_law.specs.Steps.{Copies, Secures, HearsNote}
+use Rattle.gc_law.specs.Ties.{IsCopied, AreCopied, AreSecured}
+
+none_some : {A : Type 0} (a : A) → None ≡ Some a → ⊥
+none_some a e = cc
+
+one_some : {A : Type 0} (a b : A) → Some a ≡ Some b → a ≡ b
+one_some a b e = cc
+
+-- ---- they are secured
+
+safe_by : (p : ℕ) (heard : List NotedEvent) (files changed : Files) (e : Entry) (copied : IsCopied p heard files e) (new : Option FileState) → changed e.chunk ≡ new → Rises (Some copied.file) new
+    → ((file : FileState) → changed e.chunk ≡ Some file → IsDurable file) → IsSafeAt changed e.chunk copied.content
+safe_by p heard files changed e copied None there rises durable = absurd rises
+safe_by p heard files changed e copied (Some g) there rises durable =
+    let bytes : g.bytes ≡ spellings copied.records = rises.bytes ∙ copied.whole in
+    record {
+      file = g;
+      safe = copied.records;
+      more = [];
+      rest = [];
+      there = there;
+      named = (durable g there).named;
+      holds = record {
+        split =
+            subst (λ (rs : List Record). Splits (class_of_kind e.chunk.kind) g.bytes rs []) (sym (append-nil copied.records))
+            (subst (λ (b : List ℕ). Splits (class_of_kind e.chunk.kind) b copied.records []) (sym bytes) (whole_spellings_split (class_of_kind e.chunk.kind) copied.records copied.valid));
+        torn = nothing_is_torn (class_of_kind e.chunk.kind);
+        front = omega (arith, (durable g there).front, ap length bytes);
+      };
+      has = copied.has;
+    }
+
+-- after both syncs each of them is kept
+pub copies_secured : (p : ℕ) (heard unheard : List NotedEvent) (c t : Gathered) (present : List Entry) → IsTelling p (heard ++ unheard) → AreCopied p heard c.files present → Secures p c t
+    → ((e : Entry) (file : FileState) → IsOneOf e present → is_waiting e ≡ true → t.files e.chunk ≡ Some file → IsDurable file) → AreSecured p heard t.files present
+copies_secured p heard unheard c t present telling copied s durable e r chunk i waiting own is =
+    let x = copied e i waiting in
+    let same : x.content ≡ r = telling.content x.content r x.chunk chunk (in_all x.content x.chunk x.own) (in_all r chunk own) (ap (λ (id : Identity). id.seq) (sym x.is ∙ is)) in (
+      x.partition,
+      subst (IsSafeAt t.files e.chunk) same
+          (safe_by p heard c.files t.files e x (t.files e.chunk) refl (subst (λ (o : Option FileState). Rises o (t.files e.chunk)) x.there (s.rises e.chunk x.partition))
+          (λ file there. durable e file i waiting there)),
+    )
+  where
+    in_all : (y : Record) (d : ChunkName) → IsOneOf (Own y d) (notes heard) → IsOneOf (Own y d) (notes (heard ++ unheard))
+    in_all y d j = subst (λ (ns : List Note). IsOneOf (Own y d) ns) (sym (notes-append heard unheard)) (one_of_left (notes heard) (notes unheard) (Own y d) j)
+
+-- and then none waits
+none_waits : (all es : List Entry) (e : Entry) → IsOneOf e (settled all es) → e.waiting ≡ false
+none_waits all [] e h = absurd h
+none_waits all (x ∷ es) e h = elim h [ inl same ↦ ap (λ (y : Entry). y.waiting) same | inr more ↦ none_waits all es e more ]
+
+pub copies_moved : (p : ℕ) (heard : List NotedEvent) (files : Files) (b : Book) → AreCopied p heard files (moved_in b).present
+copies_moved p heard files b e i waiting = absurd (true≢false (sym (and_parts e.waiting (is_some e.content) waiting).0 ∙ none_waits b.present b.present e i))
+
+-- ---- a copy more
+
+each_by : (P : Record → Type 0) (xs ys : List Record) → AllByRecursion P (xs ++ ys) → AllByRecursion P xs
+each_by P [] ys h = tt
+each_by P (x ∷ xs) ys h = (h.0, each_by P xs ys h.1)
+
+each_front : (P : Record → Type 0) (xs ys : List Record) → All P (xs ++ ys) → All P xs
+each_front P xs ys h = All-from_recursion P xs (each_by P xs ys (recursion_from_All P (xs ++ ys) h))
+
+module _ (p : ℕ) (heard : List NotedEvent) (c t : Gathered) (name : ChunkName) (r : Record) (piece : List ℕ) (copies : Copies p heard c t name r piece []) where
+  bytes_now : (copies.file.bytes ++ piece) ≡ spellings (copies.records ++ r ∷ [])
+  bytes_now =
+      ap (λ (b : List ℕ). b ++ piece) copies.whole
+      ∙ ap (λ (b : List ℕ). spellings copies.records ++ b) (sym (append-nil piece) ∙ (sym copies.spelled ∙ sym (append-nil (spelling r))))
+      ∙ sym (flat_map-append spelling copies.records (r ∷ []))
+
+  -- what lay whole in a copy file still does
+  still : (e : Entry) → IsCopied p heard c.files e → IsCopied p heard t.files e
+  still e x = elim (same_name_or_not e.chunk name) [
+    | inr ne ↦ record {
+      content = x.content;
+      chunk = x.chunk;
+      own = x.own;
+      is = x.is;
+      partition = x.partition;
+      file = x.file;
+      records = x.records;
+      there = copies.files.others e.chunk ne ∙ x.there;
+      whole = x.whole;
+      valid = x.valid;
+      has = x.has;
+    }
+    | inl same ↦
+        let is : x.file ≡ copies.file = one_some x.file copies.file (sym x.there ∙ (ap c.files same ∙ copies.there)) in
+        let valid : All (IsOfClass (class_of_kind name.kind)) x.records = subst (λ (n : ChunkName). All (IsOfClass (class_of_kind n.kind)) x.records) same x.valid in
+        let records : x.records ≡ copies.records =
+        (one_split (class_of_kind name.kind) (spellings x.records) x.records copies.records [] [] (whole_spellings_split (class_of_kind name.kind) x.records valid)
+        (subst (λ (b : List ℕ). Splits (class_of_kind name.kind) b copies.records []) (sym copies.whole ∙ (ap (λ (f : FileState). f.bytes) (sym is) ∙ x.whole)) (old_split copies.valid))).0 in
+        record {
+          content = x.content;
+          chunk = x.chunk;
+          own = x.own;
+          is = x.is;
+          partition = x.partition;
+          file = with_bytes copies.file piece;
+          records = copies.records ++ r ∷ [];
+          there = ap t.files same ∙ copies.files.at;
+          whole = bytes_now;
+          valid = subst (λ (n : ChunkName). All (IsOfClass (class_of_kind n.kind)) (copies.records ++ r ∷ [])) (sym same) copies.valid;
+          has = in_left copies.records (r ∷ []) x.content (subst (λ (rs : List Record). IsIn x.content rs) records x.has);
+        }
+  ] where
+    old_split : All (IsOfClass (class_of_kind name.kind)) (copies.records ++ r ∷ []) → Splits (class_of_kind name.kind) (spellings copies.records) copies.records []
+    old_split valid = whole_spellings_split (class_of_kind name.kind) copies.records (each_front (IsOfClass (class_of_kind name.kind)) copies.records (r ∷ []) valid)
+
+  -- a record that had an event of its own kind was copied whole
+  pub copies_more : (b : Book) (e : Entry) (chunk : ChunkName) → name.partition.0 ≡ p → AreCopied p heard c.files b.present → last_in b.present (seq_of r) copies.from ≡ Some e → e.id ≡ identity_of r
+      → IsOneOf (Own r chunk) (notes heard) → AreCopied p heard t.files (copied_in b (seq_of r) copies.from name).present
+  copies_more b e chunk at copied last is own x i waiting =
+      elim (one_of_append b.present (copy_of (last_in b.present (seq_of r) copies.from) name) x i) [
+        | inl before ↦ still x (copied x before waiting)
+        | inr now ↦ elim (subst (λ (o : Option Entry). IsOneOf x (copy_of o name)) last now) [
+          | inl same ↦ record {
+            content = r;
+            chunk = chunk;
+            own = own;
+            is = ap (λ (y : Entry). y.id) same ∙ is;
+            partition = ap (λ (y : Entry). y.chunk.partition.0) same ∙ at;
+            file = with_bytes copies.file piece;
+            records = copies.records ++ r ∷ [];
+            there = ap (λ (y : Entry). t.files y.chunk) same ∙ copies.files.at;
+            whole = bytes_now;
+            valid = subst (λ (n : ChunkName). All (IsOfClass (class_of_kind n.kind)) (copies.records ++ r ∷ [])) (sym (ap (λ (y : Entry). y.chunk) same)) copies.valid;
+            has = in_right copies.records (r ∷ []) r (inl refl);
+          }
+          | inr more ↦ absurd more
+        ]
+      ]
+
+-- ---- an event is heard
+
+unplaced_by : (x : Bool) (e : Entry) → ((cond x (with_place false e) e).id ≡ e.id) × ((cond x (with_place false e) e).chunk ≡ e.chunk) × (is_waiting (cond x (with_place false e) e) ≡ is_waiting e)
+unplaced_by true e = (refl, refl, refl)
+unplaced_by false e = (refl, refl, refl)
+
+told_waits : (n : Note) → is_waiting (entry_of n) ≡ false
+told_waits (Own content chunk) = refl
+told_waits (Dead id chunk) = refl
+
+from_map : {A B : Type 0} (f : A → B) (xs : List A) (y : B) → IsOneOf y (map f xs) → (x : A) × IsOneOf x xs × (y ≡ f x)
+from_map f [] y h = absurd h
+from_map f (x ∷ xs) y h = elim h [
+  | inl e ↦ (x, inl refl, e)
+  | inr more ↦
+      let w = from_map f xs y more in
+      (w.0, inr w.1, w.2)
+]
+
+pub copies_noted : (p : ℕ) (heard : List NotedEvent) (c t : Gathered) (b : Book) (n : Note) → AreCopied p heard c.files b.present → HearsNote c t n → AreCopied p (heard ++ RecordEvent n ∷ []) t.files (heard_in b n).present
+copies_noted p heard c t b n copied hears e i waiting =
+    elim (one_of_append (map (λ e. if is_own n && (e.id.seq == number_of n) then with_place false e else e) b.present)
+    (entry_of n ∷ []) e i) [
+      | inl before ↦
+          let w = from_map (λ e. if is_own n && (e.id.seq == number_of n) then with_place false e else e) b.present e before in
+          let u = unplaced_by (is_own n && (w.0.id.seq == number_of n)) w.0 in
+          let x = copied w.0 w.1 (sym u.2 ∙ (ap is_waiting (sym w.2) ∙ waiting)) in
+          let chunk : e.chunk ≡ w.0.chunk = ap (λ (y : Entry). y.chunk) w.2 ∙ u.1 in
+          record {
+            content = x.content;
+            chunk = x.chunk;
+            own = subst (λ (ns : List Note). IsOneOf (Own x.content x.chunk) ns) (sym (notes-append heard (RecordEvent n ∷ []))) (one_of_left (notes heard) (n ∷ []) (Own x.content x.chunk) x.own);
+            is = ap (λ (y : Entry). y.id) w.2 ∙ u.0 ∙ x.is;
+            partition = ap (λ (d : ChunkName). d.partition.0) chunk ∙ x.partition;
+            file = x.file;
+            records = x.records;
+            there = hears.files e.chunk ∙ (ap c.files chunk ∙ x.there);
+            whole = x.whole;
+            valid = subst (λ (d : ChunkName). All (IsOfClass (class_of_kind d.kind)) x.records) (sym chunk) x.valid;
+            has = x.has;
+          }
+      | inr now ↦ elim now [ inl same ↦ absurd (true≢false (sym waiting ∙ (ap is_waiting same ∙ told_waits n))) | inr more ↦ absurd more ]
+    ]

@@ -1,0 +1,12 @@
+pub mod EventLaws
+pub mod TellingLaws
+pub mod RestartingLaws
+pub mod SplitLaws
+pub mod NameLaws
+pub mod UnionLaws
+pub mod StepLaws
+pub mod BookLaws
+pub mod TieLaws
+pub mod ReadLaws
+pub mod ApartLaws
+pub mod CopyLaws

@@ -1,0 +1,54 @@
+-- What ties a collector's table to what it has of a partition.
+use Rattle.std.specs.Prelude.{◌≡◌, ◌⊎◌, ℕ, true, List, map, All, Some, None}
+use Rattle.hr_base.specs.declared.name.ChunkName.{ChunkName}
+use Rattle.hr_base.specs.Entries.{Key}
+use Rattle.hr_base.specs.Names.{class_of_kind}
+use Rattle.dir_files.specs.Files.{FileState, Files}
+use Rattle.record_format.specs.declared.record.Record.{Record}
+use Rattle.record_format.specs.Spelling.{seq_of, class_of_record, spellings}
+use Rattle.record_format.specs.Splits.{IsOfClass}
+use Rattle.crash_law.specs.Numbered.{IsIn}
+use Rattle.gc_event.specs.Notes.{IsOneOf, identity_of, Own, top, occurrence, NoSmallerValue}
+use Rattle.gc_law.specs.Events.{NotedEvent, notes, seal_of}
+use Rattle.gc_law.specs.Tells.{Gathered, IsSafeAt, KeepsBy}
+use Rattle.gc_event.specs.Books.{Entry, Book, is_waiting}
+
+-- The table has the record's place, and a crash keeps the record there: in the chunk of its event, whose Seal was not heard,
+-- or in a file of the collector's.
+pub record HasPlaceIn (p : ℕ) (heard : List NotedEvent) (files : Files) (present : List Entry) (r : Record) (chunk : ChunkName) : Type 0 where
+  pub entry : Entry
+  pub member : IsOneOf entry present
+  pub is : entry.id ≡ identity_of r
+  pub place : entry.place ≡ true
+  pub kept : ((entry.chunk ≡ chunk) × (seal_of heard chunk ≡ None)) ⊎ ((entry.chunk.partition.0 ≡ p) × IsSafeAt files entry.chunk r)
+
+-- The table stands for what was heard, and for the occurrences that the collector counts; and it has the place of each top.
+pub record Ties (p : ℕ) (heard : List NotedEvent) (c : Gathered) (b : Book) : Type 0 where
+  pub told : b.told ≡ notes heard
+  pub present : c.present ≡ map (λ e. occurrence e.id e.chunk) b.present
+  pub places : (k : Key) (r : Record) (chunk : ChunkName) → top (notes heard) k ≡ Some (Own r chunk)
+      → KeepsBy (class_of_record r) (HasPlaceIn p heard c.files b.present r chunk) (NoSmallerValue c.present k (seq_of r))
+
+-- after a securing, each copy that waited and is not dead is kept in its copy file
+abbrev pub AreSecured : ℕ → List NotedEvent → Files → List Entry → Type 0
+AreSecured p heard files present =
+    (e : Entry) (r : Record) (chunk : ChunkName) → IsOneOf e present → is_waiting e ≡ true → IsOneOf (Own r chunk) (notes heard) → e.id ≡ identity_of r
+    → (e.chunk.partition.0 ≡ p) × IsSafeAt files e.chunk r
+
+-- the entry's record had an event of its own kind, and lies whole in its copy file, which has no rest
+pub record IsCopied (p : ℕ) (heard : List NotedEvent) (files : Files) (e : Entry) : Type 0 where
+  pub content : Record
+  pub chunk : ChunkName
+  pub own : IsOneOf (Own content chunk) (notes heard)
+  pub is : e.id ≡ identity_of content
+  pub partition : e.chunk.partition.0 ≡ p
+  pub file : FileState
+  pub records : List Record
+  pub there : files e.chunk ≡ Some file
+  pub whole : file.bytes ≡ spellings records
+  pub valid : All (IsOfClass (class_of_kind e.chunk.kind)) records
+  pub has : IsIn content records
+
+-- each copy that waits and is not dead does, while the disk refused none
+abbrev pub AreCopied : ℕ → List NotedEvent → Files → List Entry → Type 0
+AreCopied p heard files present = (e : Entry) → IsOneOf e present → is_waiting e ≡ true → IsCopied p heard files e
