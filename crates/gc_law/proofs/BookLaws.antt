@@ -14,7 +14,7 @@ use Rattle.record_format.specs.declared.record.Record.TheVariants.{Value, Tomb, 
 use Rattle.record_format.specs.Spelling.{seq_of, class_of_record}
 use Rattle.gc_event.specs.Notes.{IsOneOf, Identity, identity_of, concerns, speaks_of, Note, Own, id_of, number_of, IsTop, Occurrence, occurrence, NoSmallerValue}
 use Rattle.gc_law.specs.Events.{NotedEvent, notes}
-use Rattle.gc_law.specs.Tells.{Gathered, KeepsBy}
+use Rattle.gc_law.specs.CollectorFacts.{Gathered, KeepsBy}
 use Rattle.gc_law.specs.Steps.{IsSpare}
 use Rattle.gc_event.specs.Books.{Entry, Book}
 use Rattle.gc_event.specs.Live.{is_value, is_clear, is_value_class, is_clear_class, is_greatest, is_newest, has_older, has_older_under, is_needed, is_live}

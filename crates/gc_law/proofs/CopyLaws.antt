@@ -16,12 +16,12 @@ use Rattle.record_format.specs.Splits.{Splits, IsOfClass}
 use Rattle.record_format.proofs.SplitLaws.{one_split, whole_spellings_split, nothing_is_torn}
 use Rattle.crash_law.specs.Numbered.{IsIn}
 use Rattle.crash_law.proofs.PlacedLaws.{in_left, in_right}
-use Rattle.gc_law.specs.Events.{NotedEvent, RecordEvent, notes, IsTelling}
-use Rattle.gc_law.specs.Tells.{Gathered, IsSafeAt}
-use Rattle.gc_law.proofs.EventLaws.{one_of_append, one_of_left, notes-append}
+use Rattle.gc_law.specs.Events.{NotedEvent, RecordEvent, SealEvent, notes, IsTelling}
+use Rattle.gc_law.specs.CollectorFacts.{Gathered, IsSafeAt}
+use Rattle.gc_law.proofs.EventLaws.{from_map, one_of_append, one_of_left, notes-append}
 use Rattle.gc_event.specs.Notes.{IsOneOf, Identity, identity_of, Note, Own, Dead, is_own, number_of}
 use Rattle.gc_event.specs.Books.{Entry, Book, with_place, entry_of, heard_in, last_in, copy_of, copied_in, is_waiting, settled, moved_in}
-use Rattle.gc_law.specs.Steps.{Copies, Secures, HearsNote}
+use Rattle.gc_law.specs.Steps.{HearsNote, HearsSeal, Begins, Copy, Copies, Secures}
 use Rattle.gc_law.specs.Ties.{IsCopied, AreCopied, AreSecured}
 
 none_some : {A : Type 0} (a : A) → None ≡ Some a → ⊥
@@ -86,16 +86,16 @@ each_by P (x ∷ xs) ys h = (h.0, each_by P xs ys h.1)
 each_front : (P : Record → Type 0) (xs ys : List Record) → All P (xs ++ ys) → All P xs
 each_front P xs ys h = All-from_recursion P xs (each_by P xs ys (recursion_from_All P (xs ++ ys) h))
 
-module _ (p : ℕ) (heard : List NotedEvent) (c t : Gathered) (name : ChunkName) (r : Record) (piece : List ℕ) (copies : Copies p heard c t name r piece []) where
-  bytes_now : (copies.file.bytes ++ piece) ≡ spellings (copies.records ++ r ∷ [])
+module _ (p : ℕ) (heard : List NotedEvent) (c t : Gathered) (q : Copy) (copies : Copies p heard c t q) (all : q.missing ≡ []) where
+  bytes_now : (copies.file.bytes ++ q.piece) ≡ spellings (copies.records ++ q.content ∷ [])
   bytes_now =
-      ap (λ (b : List ℕ). b ++ piece) copies.whole
-      ∙ ap (λ (b : List ℕ). spellings copies.records ++ b) (sym (append-nil piece) ∙ (sym copies.spelled ∙ sym (append-nil (spelling r))))
-      ∙ sym (flat_map-append spelling copies.records (r ∷ []))
+      ap (λ (b : List ℕ). b ++ q.piece) copies.whole
+      ∙ ap (λ (b : List ℕ). spellings copies.records ++ b) (sym (append-nil q.piece) ∙ (ap (λ (b : List ℕ). q.piece ++ b) (sym all) ∙ (sym copies.spelled ∙ sym (append-nil (spelling q.content)))))
+      ∙ sym (flat_map-append spelling copies.records (q.content ∷ []))
 
   -- what lay whole in a copy file still does
   still : (e : Entry) → IsCopied p heard c.files e → IsCopied p heard t.files e
-  still e x = elim (same_name_or_not e.chunk name) [
+  still e x = elim (same_name_or_not e.chunk q.target) [
     | inr ne ↦ record {
       content = x.content;
       chunk = x.chunk;
@@ -111,50 +111,107 @@ module _ (p : ℕ) (heard : List NotedEvent) (c t : Gathered) (name : ChunkName)
     }
     | inl same ↦
         let is : x.file ≡ copies.file = one_some x.file copies.file (sym x.there ∙ (ap c.files same ∙ copies.there)) in
-        let valid : All (IsOfClass (class_of_kind name.kind)) x.records = subst (λ (n : ChunkName). All (IsOfClass (class_of_kind n.kind)) x.records) same x.valid in
+        let valid : All (IsOfClass (class_of_kind q.target.kind)) x.records = subst (λ (n : ChunkName). All (IsOfClass (class_of_kind n.kind)) x.records) same x.valid in
         let records : x.records ≡ copies.records =
-        (one_split (class_of_kind name.kind) (spellings x.records) x.records copies.records [] [] (whole_spellings_split (class_of_kind name.kind) x.records valid)
-        (subst (λ (b : List ℕ). Splits (class_of_kind name.kind) b copies.records []) (sym copies.whole ∙ (ap (λ (f : FileState). f.bytes) (sym is) ∙ x.whole)) (old_split copies.valid))).0 in
+        (one_split (class_of_kind q.target.kind) (spellings x.records) x.records copies.records [] [] (whole_spellings_split (class_of_kind q.target.kind) x.records valid)
+        (subst (λ (b : List ℕ). Splits (class_of_kind q.target.kind) b copies.records []) (sym copies.whole ∙ (ap (λ (f : FileState). f.bytes) (sym is) ∙ x.whole)) (old_split copies.valid))).0 in
         record {
           content = x.content;
           chunk = x.chunk;
           own = x.own;
           is = x.is;
           partition = x.partition;
-          file = with_bytes copies.file piece;
-          records = copies.records ++ r ∷ [];
+          file = with_bytes copies.file q.piece;
+          records = copies.records ++ q.content ∷ [];
           there = ap t.files same ∙ copies.files.at;
           whole = bytes_now;
-          valid = subst (λ (n : ChunkName). All (IsOfClass (class_of_kind n.kind)) (copies.records ++ r ∷ [])) (sym same) copies.valid;
-          has = in_left copies.records (r ∷ []) x.content (subst (λ (rs : List Record). IsIn x.content rs) records x.has);
+          valid = subst (λ (n : ChunkName). All (IsOfClass (class_of_kind n.kind)) (copies.records ++ q.content ∷ [])) (sym same) copies.valid;
+          has = in_left copies.records (q.content ∷ []) x.content (subst (λ (rs : List Record). IsIn x.content rs) records x.has);
         }
   ] where
-    old_split : All (IsOfClass (class_of_kind name.kind)) (copies.records ++ r ∷ []) → Splits (class_of_kind name.kind) (spellings copies.records) copies.records []
-    old_split valid = whole_spellings_split (class_of_kind name.kind) copies.records (each_front (IsOfClass (class_of_kind name.kind)) copies.records (r ∷ []) valid)
+    old_split : All (IsOfClass (class_of_kind q.target.kind)) (copies.records ++ q.content ∷ []) → Splits (class_of_kind q.target.kind) (spellings copies.records) copies.records []
+    old_split valid = whole_spellings_split (class_of_kind q.target.kind) copies.records (each_front (IsOfClass (class_of_kind q.target.kind)) copies.records (q.content ∷ []) valid)
 
   -- a record that had an event of its own kind was copied whole
-  pub copies_more : (b : Book) (e : Entry) (chunk : ChunkName) → name.partition.0 ≡ p → AreCopied p heard c.files b.present → last_in b.present (seq_of r) copies.from ≡ Some e → e.id ≡ identity_of r
-      → IsOneOf (Own r chunk) (notes heard) → AreCopied p heard t.files (copied_in b (seq_of r) copies.from name).present
+  pub copies_more : (b : Book) (e : Entry) (chunk : ChunkName) → q.target.partition.0 ≡ p → AreCopied p heard c.files b.present → last_in b.present (seq_of q.content) q.source ≡ Some e → e.id ≡ identity_of q.content
+      → IsOneOf (Own q.content chunk) (notes heard) → AreCopied p heard t.files (copied_in b (seq_of q.content) q.source q.target).present
   copies_more b e chunk at copied last is own x i waiting =
-      elim (one_of_append b.present (copy_of (last_in b.present (seq_of r) copies.from) name) x i) [
+      elim (one_of_append b.present (copy_of (last_in b.present (seq_of q.content) q.source) q.target) x i) [
         | inl before ↦ still x (copied x before waiting)
-        | inr now ↦ elim (subst (λ (o : Option Entry). IsOneOf x (copy_of o name)) last now) [
+        | inr now ↦ elim (subst (λ (o : Option Entry). IsOneOf x (copy_of o q.target)) last now) [
           | inl same ↦ record {
-            content = r;
+            content = q.content;
             chunk = chunk;
             own = own;
             is = ap (λ (y : Entry). y.id) same ∙ is;
             partition = ap (λ (y : Entry). y.chunk.partition.0) same ∙ at;
-            file = with_bytes copies.file piece;
-            records = copies.records ++ r ∷ [];
+            file = with_bytes copies.file q.piece;
+            records = copies.records ++ q.content ∷ [];
             there = ap (λ (y : Entry). t.files y.chunk) same ∙ copies.files.at;
             whole = bytes_now;
-            valid = subst (λ (n : ChunkName). All (IsOfClass (class_of_kind n.kind)) (copies.records ++ r ∷ [])) (sym (ap (λ (y : Entry). y.chunk) same)) copies.valid;
-            has = in_right copies.records (r ∷ []) r (inl refl);
+            valid = subst (λ (n : ChunkName). All (IsOfClass (class_of_kind n.kind)) (copies.records ++ q.content ∷ [])) (sym (ap (λ (y : Entry). y.chunk) same)) copies.valid;
+            has = in_right copies.records (q.content ∷ []) q.content (inl refl);
           }
           | inr more ↦ absurd more
         ]
       ]
+
+-- ---- other steps
+
+copied_over : (p : ℕ) (heard more : List NotedEvent) (files changed : Files) (e : Entry) → changed e.chunk ≡ files e.chunk → IsCopied p heard files e → IsCopied p (heard ++ more) changed e
+copied_over p heard more files changed e same x = record {
+  content = x.content;
+  chunk = x.chunk;
+  own = subst (λ (ns : List Note). IsOneOf (Own x.content x.chunk) ns) (sym (notes-append heard more)) (one_of_left (notes heard) (notes more) (Own x.content x.chunk) x.own);
+  is = x.is;
+  partition = x.partition;
+  file = x.file;
+  records = x.records;
+  there = same ∙ x.there;
+  whole = x.whole;
+  valid = x.valid;
+  has = x.has;
+}
+
+copied_with : (p : ℕ) (heard : List NotedEvent) (files changed : Files) (e : Entry) (x : IsCopied p heard files e) (file : FileState) → changed e.chunk ≡ Some file → file.bytes ≡ x.file.bytes → IsCopied p heard changed e
+copied_with p heard files changed e x file there bytes = record {
+  content = x.content;
+  chunk = x.chunk;
+  own = x.own;
+  is = x.is;
+  partition = x.partition;
+  file = file;
+  records = x.records;
+  there = there;
+  whole = bytes ∙ x.whole;
+  valid = x.valid;
+  has = x.has;
+}
+
+-- a Seal is heard
+pub copies_sealed : (p : ℕ) (heard : List NotedEvent) (c t : Gathered) (b : Book) (name : ChunkName) (file : FileState) (size : ℕ) → AreCopied p heard c.files b.present → HearsSeal c t name file
+    → AreCopied p (heard ++ SealEvent name file size ∷ []) t.files b.present
+copies_sealed p heard c t b name file size copied hears e i waiting =
+    let x = copied e i waiting in
+    copied_over p heard (SealEvent name file size ∷ []) c.files t.files e
+    (hears.files.others e.chunk (λ same. none_some x.file (sym hears.none ∙ (ap c.files (sym same) ∙ x.there)))) x
+
+-- a copy file is created
+pub copies_begun : (p : ℕ) (heard : List NotedEvent) (c t : Gathered) (b : Book) (name : ChunkName) → AreCopied p heard c.files b.present → Begins c t name → AreCopied p heard t.files b.present
+copies_begun p heard c t b name copied m e i waiting =
+    let x = copied e i waiting in
+    copied_with p heard c.files t.files e x x.file
+    (m.files.others e.chunk (λ same. none_some x.file (sym m.none ∙ (ap c.files (sym same) ∙ x.there))) ∙ x.there) refl
+
+-- a crash keeps more of some files
+pub copies_risen : (p : ℕ) (heard : List NotedEvent) (c t : Gathered) (b : Book) → AreCopied p heard c.files b.present → Secures p c t → AreCopied p heard t.files b.present
+copies_risen p heard c t b copied s e i waiting =
+    let x = copied e i waiting in
+    risen x (t.files e.chunk) refl (subst (λ (o : Option FileState). Rises o (t.files e.chunk)) x.there (s.rises e.chunk x.partition))
+  where
+    risen : (x : IsCopied p heard c.files e) (new : Option FileState) → t.files e.chunk ≡ new → Rises (Some x.file) new → IsCopied p heard t.files e
+    risen x None there rises = absurd rises
+    risen x (Some g) there rises = copied_with p heard c.files t.files e x g there rises.bytes
 
 -- ---- an event is heard
 
@@ -165,15 +222,6 @@ unplaced_by false e = (refl, refl, refl)
 told_waits : (n : Note) → is_waiting (entry_of n) ≡ false
 told_waits (Own content chunk) = refl
 told_waits (Dead id chunk) = refl
-
-from_map : {A B : Type 0} (f : A → B) (xs : List A) (y : B) → IsOneOf y (map f xs) → (x : A) × IsOneOf x xs × (y ≡ f x)
-from_map f [] y h = absurd h
-from_map f (x ∷ xs) y h = elim h [
-  | inl e ↦ (x, inl refl, e)
-  | inr more ↦
-      let w = from_map f xs y more in
-      (w.0, inr w.1, w.2)
-]
 
 pub copies_noted : (p : ℕ) (heard : List NotedEvent) (c t : Gathered) (b : Book) (n : Note) → AreCopied p heard c.files b.present → HearsNote c t n → AreCopied p (heard ++ RecordEvent n ∷ []) t.files (heard_in b n).present
 copies_noted p heard c t b n copied hears e i waiting =

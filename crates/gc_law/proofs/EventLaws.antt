@@ -1,5 +1,5 @@
 -- Lists of events, cut in two, and what is known of records by them.
-use Rattle.std.specs.Prelude.{◌≡◌, ◌⊎◌, ℕ, ◌≤◌, Bool, true, false, cond, List, [], ◌∷◌, ◌++◌, Option, Some, None, refl}
+use Rattle.std.specs.Prelude.{◌≡◌, ◌⊎◌, ℕ, ◌≤◌, Bool, true, false, cond, List, [], ◌∷◌, ◌++◌, filter, map, Option, Some, None, refl}
 use Rattle.std.proofs.Common.{sym, ◌∙◌, ap, subst, inl, inr, arith, true≢false}
 use Rattle.hr_base.specs.declared.name.ChunkName.{ChunkName}
 use Rattle.hr_base.specs.NameTests.{is_name}
@@ -21,7 +21,7 @@ use Rattle.record_format.specs.Splits.{Splits}
 use Rattle.record_format.proofs.SplitLaws.{one_split}
 use Rattle.gc_event.specs.Notes.{IsOneOf, Identity, identity_of, concerns, Note, Own, Dead, id_of, chunk_of, number_of}
 use Rattle.gc_law.specs.Events.{NotedEvent, RecordEvent, SealEvent, notes, seal_of, sealed_image, placed_of, NotFalling, IsClosed, SealsLast, IsSealedFile, IsTelling, IsTold}
-use Rattle.gc_law.specs.Tells.{or_file}
+use Rattle.dir_files.specs.Ports.{either_file}
 
 -- a record's command touches the keys that its identity concerns
 pub touches_is : (r : Record) (k : Key) → touches (command_of r) k ≡ concerns (identity_of r) k
@@ -44,6 +44,40 @@ pub one_of_right : {A : Type 0} (xs ys : List A) (x : A) → IsOneOf x ys → Is
 one_of_right [] ys x h = h
 one_of_right (y ∷ xs) ys x h = inr (one_of_right xs ys x h)
 
+pub in_filter : {A : Type 0} (test : A → Bool) (xs : List A) (x : A) → IsOneOf x xs → test x ≡ true → IsOneOf x (filter test xs)
+in_filter test [] x h t = absurd h
+in_filter test (y ∷ xs) x h t = elim h [
+  | inl e ↦ first (test y) (ap test (sym e) ∙ t) e
+  | inr more ↦ later (test y) (in_filter test xs x more t)
+] where
+  first : (b : Bool) → b ≡ true → x ≡ y → IsOneOf x (cond b (y ∷ filter test xs) (filter test xs))
+  first true u e = inl e
+  first false u e = absurd (true≢false (sym u))
+
+  later : (b : Bool) → IsOneOf x (filter test xs) → IsOneOf x (cond b (y ∷ filter test xs) (filter test xs))
+  later true i = inr i
+  later false i = i
+
+pub from_filter : {A : Type 0} (test : A → Bool) (xs : List A) (x : A) → IsOneOf x (filter test xs) → IsOneOf x xs × (test x ≡ true)
+from_filter test [] x h = absurd h
+from_filter test (y ∷ xs) x h = by_test (test y) refl (from_filter test xs x) h where
+  by_test : (b : Bool) → test y ≡ b → (IsOneOf x (filter test xs) → IsOneOf x xs × (test x ≡ true)) → IsOneOf x (cond b (y ∷ filter test xs) (filter test xs)) → IsOneOf x (y ∷ xs) × (test x ≡ true)
+  by_test true e later i = elim i [ inl same ↦ (inl same, ap test same ∙ e) | inr more ↦ (inr (later more).0, (later more).1) ]
+  by_test false e later i = (inr (later i).0, (later i).1)
+
+pub in_map : {A B : Type 0} (f : A → B) (xs : List A) (x : A) → IsOneOf x xs → IsOneOf (f x) (map f xs)
+in_map f [] x h = absurd h
+in_map f (y ∷ xs) x h = elim h [ inl e ↦ inl (ap f e) | inr more ↦ inr (in_map f xs x more) ]
+
+pub from_map : {A B : Type 0} (f : A → B) (xs : List A) (y : B) → IsOneOf y (map f xs) → (x : A) × IsOneOf x xs × (y ≡ f x)
+from_map f [] y h = absurd h
+from_map f (x ∷ xs) y h = elim h [
+  | inl e ↦ (x, inl refl, e)
+  | inr more ↦
+      let w = from_map f xs y more in
+      (w.0, inr w.1, w.2)
+]
+
 -- ---- lists in two parts
 
 pub notes-append : (xs ys : List NotedEvent) → notes (xs ++ ys) ≡ notes xs ++ notes ys
@@ -51,11 +85,11 @@ notes-append [] ys = refl
 notes-append (RecordEvent note ∷ xs) ys = ap (λ (ns : List Note). note ∷ ns) (notes-append xs ys)
 notes-append (SealEvent name file size ∷ xs) ys = notes-append xs ys
 
-or_by : (b : Bool) (file : FileState) (x y : Option FileState) → cond b (Some file) (or_file x y) ≡ or_file (cond b (Some file) x) y
+or_by : (b : Bool) (file : FileState) (x y : Option FileState) → cond b (Some file) (either_file x y) ≡ either_file (cond b (Some file) x) y
 or_by true file x y = refl
 or_by false file x y = refl
 
-pub seal_of-append : (xs ys : List NotedEvent) (name : ChunkName) → seal_of (xs ++ ys) name ≡ or_file (seal_of xs name) (seal_of ys name)
+pub seal_of-append : (xs ys : List NotedEvent) (name : ChunkName) → seal_of (xs ++ ys) name ≡ either_file (seal_of xs name) (seal_of ys name)
 seal_of-append [] ys name = refl
 seal_of-append (RecordEvent note ∷ xs) ys name = seal_of-append xs ys name
 seal_of-append (SealEvent own file size ∷ xs) ys name =
@@ -74,7 +108,7 @@ closed_by true name own file f xs ys same closed later h =
       none_sealed = right_none (seal_of xs own) (seal_of ys own) (sym (seal_of-append xs ys own) ∙ closed.none_sealed);
     })
   where
-    right_none : (x y : Option FileState) → or_file x y ≡ None → y ≡ None
+    right_none : (x y : Option FileState) → either_file x y ≡ None → y ≡ None
     right_none None y e = e
     right_none (Some g) y e = absurd (none_some g (sym e))
 closed_by false name own file f xs ys apart closed later h = later h

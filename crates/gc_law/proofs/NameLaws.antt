@@ -25,7 +25,10 @@ use Rattle.crash_law.proofs.NumberedLaws.{Contains-from_in}
 use Rattle.crash_law.proofs.PlacedLaws.{in_chunk-append, in_chunk_valid, in_front, in_append, in_left, in_right}
 use Rattle.gc_event.specs.Notes.{IsOneOf, Identity, identity_of, Note, Own, occurrence}
 use Rattle.gc_law.specs.Events.{NotedEvent, notes, seal_of, sealed_image, placed_of, IsNotedAt, IsTold}
-use Rattle.gc_law.specs.Tells.{Tells, IsWritersAt, Gathered, HoldsSplit, IsSafeAt, IsGatheredFile, KeptBy, or_file, all_files, AreApart}
+use Rattle.dir_files.specs.Ports.{either_file}
+use Rattle.gc_law.specs.WriterFacts.{Tells, IsWritersAt}
+use Rattle.gc_law.specs.CollectorFacts.{Gathered, HoldsSplit, IsSafeAt, IsGatheredFile, KeptBy}
+use Rattle.gc_law.specs.Both.{files_of_both, AreApart}
 use Rattle.gc_law.proofs.EventLaws.{one_of_append, one_of_left, one_of_right, notes-append, seal_of-append, closed_behind, placed_in_chunk, in_chunk_placed}
 use Rattle.gc_law.proofs.SplitLaws.{split_leaves}
 
@@ -96,15 +99,15 @@ writers_none None None noted since h e f = h
 writers_none None (Some g) noted since h e f = absurd (some_none g f)
 writers_none (Some g) file noted since h e f = absurd (some_none g e)
 
-left_none : (x y : Option FileState) → or_file x y ≡ None → x ≡ None
+left_none : (x y : Option FileState) → either_file x y ≡ None → x ≡ None
 left_none None y e = refl
 left_none (Some g) y e = absurd (some_none g e)
 
-both_none : (x y : Option FileState) → x ≡ None → y ≡ None → or_file x y ≡ None
+both_none : (x y : Option FileState) → x ≡ None → y ≡ None → either_file x y ≡ None
 both_none None y e f = f
 both_none (Some g) y e f = absurd (some_none g e)
 
-left_some : (x y : Option FileState) (b : List ℕ) → option_map (λ (file : FileState). file.bytes) x ≡ Some b → option_map (λ (file : FileState). file.bytes) (or_file x y) ≡ Some b
+left_some : (x y : Option FileState) (b : List ℕ) → option_map (λ (file : FileState). file.bytes) x ≡ Some b → option_map (λ (file : FileState). file.bytes) (either_file x y) ≡ Some b
 left_some None y b e = absurd (some_none b (sym e))
 left_some (Some g) y b e = e
 
@@ -121,7 +124,7 @@ safe_left image files name r recs f bytes rest there keeps split safe =
     (in_left safe.safe (take left.count safe.more) r safe.has)
 
 module _ (w : Written) (heard unheard : List NotedEvent) (a : Account) (c : Gathered) (told : Tells w (heard ++ unheard) a) (kept : KeptBy w.partition heard c)
-    (apart : AreApart w.partition w.files (seal_of unheard) c.files) (image : Image) (is : IsImageOfPart w.partition (all_files w.files (seal_of unheard) c.files) c.gone image) where
+    (apart : AreApart w unheard c) (image : Image) (is : IsImageOfPart w.partition (files_of_both w unheard c) c.gone image) where
   -- ---- what was heard, and what was not
 
   pub heard_noted : (n : Note) → IsOneOf n (notes heard) → IsOneOf n (notes (heard ++ unheard))
@@ -148,7 +151,7 @@ module _ (w : Written) (heard unheard : List NotedEvent) (a : Account) (c : Gath
   not_heard name f h = not_heard_by (seal_of heard name) name f refl h
 
   sealed_all : (name : ChunkName) (f : FileState) → seal_of unheard name ≡ Some f → seal_of (heard ++ unheard) name ≡ Some f
-  sealed_all name f h = seal_of-append heard unheard name ∙ ap (λ (x : Option FileState). or_file x (seal_of unheard name)) (not_heard name f h) ∙ h
+  sealed_all name f h = seal_of-append heard unheard name ∙ ap (λ (x : Option FileState). either_file x (seal_of unheard name)) (not_heard name f h) ∙ h
 
   known_more : (r : Record) → IsTold w.partition heard r → IsTold w.partition (heard ++ unheard) r
   known_more r (inl own) = inl (own.0, heard_noted (Own r own.0) own.1)
@@ -218,7 +221,7 @@ module _ (w : Written) (heard unheard : List NotedEvent) (a : Account) (c : Gath
             reads = reads_some image name bytes (take left.count file.records) left.rest there left.split left.torn (kept_small f bytes keeps file.small);
             known = λ r i.
                 let in_file = in_front left.count file.records r i in
-                inl (known_more r (file.known r in_file), inr (file.marked r in_file));
+                inl (known_more r (file.told r in_file), inr (file.marked r in_file));
             since = λ r i. absurd i;
             own = λ r i e. absurd (no_own none unsealed r i e);
             safe = λ r s. safe_left image c.files name r (take left.count file.records) f bytes left.rest (same r s) keeps left.split s;
@@ -240,7 +243,7 @@ module _ (w : Written) (heard unheard : List NotedEvent) (a : Account) (c : Gath
         left_gathered f bytes none unsealed there may (kept.files name f of e) (λ r s. e)
 
     -- a file in a Seal that was not heard
-    by_sealed : (file : Option FileState) (left : Option (List ℕ)) → w.files name ≡ None → seal_of unheard name ≡ file → image name ≡ left → MayLeave (or_file file (c.files name)) (c.gone name) left → Left name
+    by_sealed : (file : Option FileState) (left : Option (List ℕ)) → w.files name ≡ None → seal_of unheard name ≡ file → image name ≡ left → MayLeave (either_file file (c.files name)) (c.gone name) left → Left name
     by_sealed None left none e there may = by_gathered (c.files name) left none e refl there may
     by_sealed (Some f) None none e there may =
         absurd (true≢false (sym (told.telling.seals name f (sealed_all name f e)).durable.named ∙ may))
@@ -285,7 +288,7 @@ module _ (w : Written) (heard unheard : List NotedEvent) (a : Account) (c : Gath
         subst (λ (rs : List Record). AllByRecursion (IsOfClass (class_of_kind name.kind)) rs) (in_chunk-append name (placed_of (notes (heard ++ unheard))) w.records)
         (in_chunk_valid w.partition name (placed_of (notes (heard ++ unheard)) ++ w.records) (recursion_from_All (IsPlaced w.partition) (placed_of (notes (heard ++ unheard)) ++ w.records) told.placed))
 
-    by_own : (file : Option FileState) (left : Option (List ℕ)) → w.files name ≡ file → image name ≡ left → MayLeave (or_file file (or_file (seal_of unheard name) (c.files name))) (c.gone name) left → Left name
+    by_own : (file : Option FileState) (left : Option (List ℕ)) → w.files name ≡ file → image name ≡ left → MayLeave (either_file file (either_file (seal_of unheard name) (c.files name))) (c.gone name) left → Left name
     by_own None left e there may = by_sealed (seal_of unheard name) left e refl there may
     by_own (Some f) None e there may =
         let at = writers_some (seal_of (heard ++ unheard) name) (w.files name) f _ _ (told.at name of) e in

@@ -15,7 +15,10 @@ use Rattle.crash_law.specs.Placed.{Placed, records_of, IsPlaced}
 use Rattle.crash_law.specs.Restarts.{Fact, RestartsAs}
 use Rattle.crash_law.specs.Writers.{Written, IsWholeIn}
 use Rattle.gc_law.specs.Events.{NotedEvent, notes, seal_of, placed_of}
-use Rattle.gc_law.specs.Tells.{Tells, Gathered, KeptBy, or_file, all_files, AreApart}
+use Rattle.dir_files.specs.Ports.{either_file}
+use Rattle.gc_law.specs.WriterFacts.{Tells}
+use Rattle.gc_law.specs.CollectorFacts.{Gathered, KeptBy, nothing_gathered}
+use Rattle.gc_law.specs.Both.{files_of_both, AreApart}
 use Rattle.gc_law.proofs.StepLaws.{kept_nothing}
 use Rattle.gc_law.proofs.UnionLaws.{union_recovers, union_all}
 
@@ -23,13 +26,13 @@ none_some : {A : Type 0} (a : A) → None ≡ Some a → ⊥
 none_some a e = cc
 
 -- nothing is heard: the writer's files, and those in its Seals
-pub teller_survives : (w : Written) (es : List NotedEvent) (a : Account) → Tells w es a → PartSurvives w.partition (λ name. or_file (w.files name) (seal_of es name)) (λ name. None) a
+pub teller_survives : (w : Written) (es : List NotedEvent) (a : Account) → Tells w es a → PartSurvives w.partition (λ name. either_file (w.files name) (seal_of es name)) (λ name. None) a
 teller_survives w es a told image is =
-    union_recovers w [] es a (record { files = λ name. None; gone = λ name. None; present = [] }) told (kept_nothing w.partition)
+    union_recovers w [] es a nothing_gathered told (kept_nothing w.partition)
     (λ name file of e. absurd (none_some file e)) image
-    (λ name of. subst (λ (x : Option FileState). MayLeave (or_file (w.files name) x) None (image name)) (sym (no_more (seal_of es name))) (is name of))
+    (λ name of. subst (λ (x : Option FileState). MayLeave (either_file (w.files name) x) None (image name)) (sym (no_more (seal_of es name))) (is name of))
   where
-    no_more : (x : Option FileState) → or_file x None ≡ x
+    no_more : (x : Option FileState) → either_file x None ≡ x
     no_more None = refl
     no_more (Some g) = refl
 
@@ -52,28 +55,28 @@ content_placed (x ∷ xs) r h = elim h [
       (w.0, (suc w.1.0, omega (arith, w.1.1), w.1.2), w.2)
 ]
 
-pub both_read : (w : Written) (heard unheard : List NotedEvent) (a : Account) (c : Gathered) → Tells w (heard ++ unheard) a → KeptBy w.partition heard c → AreApart w.partition w.files (seal_of unheard) c.files
-    → ((name : ChunkName) (file : FileState) → all_files w.files (seal_of unheard) c.files name ≡ Some file → IsFile file)
+pub both_read : (w : Written) (heard unheard : List NotedEvent) (a : Account) (c : Gathered) → Tells w (heard ++ unheard) a → KeptBy w.partition heard c → AreApart w unheard c
+    → ((name : ChunkName) (file : FileState) → files_of_both w unheard c name ≡ Some file → IsFile file)
     → w.lost ≡ false → ((x : Placed) → Contains w.records x → IsWholeIn w.files x)
-    → RestartsAs (read_files (all_files w.files (seal_of unheard) c.files)) w.partition a.maps
+    → RestartsAs (read_files (files_of_both w unheard c)) w.partition a.maps
 both_read w heard unheard a c told kept apart fits whole in_files = record {
-  sound = (union_recovers w heard unheard a c told kept apart (read_files (all_files w.files (seal_of unheard) c.files)) is).sound;
-  restart = union_all w heard unheard a c told kept apart (read_files (all_files w.files (seal_of unheard) c.files)) is whole (λ r i. there r (content_placed w.records r i));
+  sound = (union_recovers w heard unheard a c told kept apart (read_files (files_of_both w unheard c)) is).sound;
+  restart = union_all w heard unheard a c told kept apart (read_files (files_of_both w unheard c)) is whole (λ r i. there r (content_placed w.records r i));
 } where
-  is : IsImageOfPart w.partition (all_files w.files (seal_of unheard) c.files) c.gone (read_files (all_files w.files (seal_of unheard) c.files))
-  is name of = reads_itself (all_files w.files (seal_of unheard) c.files name) (c.gone name) (fits name)
+  is : IsImageOfPart w.partition (files_of_both w unheard c) c.gone (read_files (files_of_both w unheard c))
+  is name of = reads_itself (files_of_both w unheard c name) (c.gone name) (fits name)
 
-  there : (r : Record) → (x : Placed) × Contains w.records x × (x.content ≡ r) → Fact (read_files (all_files w.files (seal_of unheard) c.files)) w.partition r
+  there : (r : Record) → (x : Placed) × Contains w.records x × (x.content ≡ r) → Fact (read_files (files_of_both w unheard c)) w.partition r
   there r x =
       let f = in_files x.0 x.1 in
-      subst (Fact (read_files (all_files w.files (seal_of unheard) c.files)) w.partition) x.2
+      subst (Fact (read_files (files_of_both w unheard c)) w.partition) x.2
       (record {
         name = x.0.chunk;
         bytes = f.file.bytes;
         records = f.records;
         rest = f.rest;
         partition = (All-contains (IsPlaced w.partition) (placed_of (notes (heard ++ unheard)) ++ w.records) x.0 told.placed (Contains-append_right (placed_of (notes (heard ++ unheard))) w.records x.0 x.1)).partition;
-        there = ap (λ (o : Option FileState). option_map (λ (g : FileState). g.bytes) (or_file o (or_file (seal_of unheard x.0.chunk) (c.files x.0.chunk)))) f.there;
+        there = ap (λ (o : Option FileState). option_map (λ (g : FileState). g.bytes) (either_file o (either_file (seal_of unheard x.0.chunk) (c.files x.0.chunk)))) f.there;
         whole = f.split;
         has = f.has;
       })

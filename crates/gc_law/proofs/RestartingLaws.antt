@@ -1,12 +1,15 @@
 -- What a restart notes is a list that a partition may note, and it tells the maps.
-use Rattle.std.specs.Prelude.{◌≡◌, ℕ, ◌≤◌, true, List, [], ◌∷◌, length, Option, Some, None, IsSome, refl}
+use Rattle.std.specs.Prelude.{◌≡◌, ◌≢◌, ℕ, ◌≤◌, Bool, true, false, cond, if◌then◌else◌, List, [], ◌∷◌, ◌++◌, length, All, Option, Some, None, IsSome, refl}
 use Rattle.std.proofs.Common.{sym, ◌∙◌, ap, subst, inl, inr, arith, true≢false}
 use Rattle.std.specs.List.{AllByRecursion}
 use Rattle.std.specs.FinMap as finmap
 use Rattle.std.specs.Option.{option_map}
+use Rattle.std.proofs.lemmas.List.{append-nil}
 use Rattle.std.proofs.lemmas.List.Elements.{All-from_recursion, recursion_from_All}
 use Rattle.hr_base.specs.declared.name.ChunkName.{ChunkName}
 use Rattle.hr_base.specs.Entries.{Key, State}
+use Rattle.hr_base.specs.NameTests.{is_name}
+use Rattle.hr_base.proofs.NameTestLaws.{is_name-true}
 use Rattle.hr_base.specs.Names.{class_of_kind}
 use Rattle.dir_files.specs.Files.{FileState}
 use Rattle.record_format.specs.declared.record.Record.{Record}
@@ -14,16 +17,16 @@ use Rattle.record_format.specs.Spelling.{seq_of}
 use Rattle.record_format.specs.Splits.{Splits, IsOfClass}
 use Rattle.record_format.proofs.SplitLaws.{one_split}
 use Rattle.crash_law.specs.Commands.{command_of, state_of}
-use Rattle.crash_law.specs.Numbered.{IsIn}
-use Rattle.crash_law.specs.Placed.{IsPlaced, Base}
+use Rattle.crash_law.specs.Accounts.{fresh_account}
+use Rattle.crash_law.specs.Numbered.{IsIn, Rising, commands_of}
+use Rattle.crash_law.specs.Placed.{Placed, records_of, in_chunk, IsPlaced, Base}
 use Rattle.crash_law.specs.Restarts.{Fact, IsDeciding, RestartsTo}
-use Rattle.crash_law.specs.Writers.{WriterStart}
+use Rattle.crash_law.specs.Writers.{WriterStart, Written}
 use Rattle.crash_law.proofs.NumberedLaws.{in_from_Contains, Contains-from_in}
 use Rattle.gc_event.specs.Notes.{IsOneOf, Identity, identity_of, concerns, Note, Own, Dead, chunk_of, number_of, top, IsTop}
 use Rattle.gc_law.specs.Events.{NotedEvent, notes, seal_of, sealed_image, placed_of, IsSealedFile, IsTelling}
-use Rattle.gc_law.specs.Tells.{IsContentOf}
-use Rattle.gc_law.specs.Restarting.{Opens}
-use Rattle.gc_law.specs.Restarting.{IsRead, IsFoundNote, NotesFound}
+use Rattle.gc_law.specs.WriterFacts.{IsStateBy, IsWritersAt, Tells, HasDoneNothing}
+use Rattle.gc_law.specs.Restarting.{IsRead, IsFoundNote, NotesFound, Opens}
 use Rattle.gc_event.proofs.NoteLaws.{top_is, top_none}
 use Rattle.gc_law.proofs.EventLaws.{touches_is}
 
@@ -131,7 +134,7 @@ module _ (p : ℕ) (es : List NotedEvent) (b : WriterStart) (base : Base p b.fou
       let above : id.seq ≤ seq_of w.0 = omega (arith, w.1.greatest x.content x.fact (touches_is x.content k ∙ (ap (λ (y : Identity). concerns y k) x.is ∙ t.touching)), ap (λ (y : Identity). y.seq) x.is) in
       true≢false (sym (t.own (Own w.0 own.0) own.1 concerned (omega (arith, above, t.greatest (Own w.0 own.0) own.1 concerned)) refl))
 
-  content_by : (k : Key) (n : Option Note) → top (notes es) k ≡ n → IsContentOf n (finmap.get b.maps k)
+  content_by : (k : Key) (n : Option Note) → top (notes es) k ≡ n → IsStateBy n (finmap.get b.maps k)
   content_by k None e = none_state (base.restart k) where
     none_state : RestartsTo (Fact b.found p) k (finmap.get b.maps k) → finmap.get b.maps k ≡ None
     none_state (inr w) = w.1
@@ -181,3 +184,43 @@ module _ (p : ℕ) (es : List NotedEvent) (b : WriterStart) (base : Base p b.fou
     twice : (was : Option (List ℕ)) → option_map (λ (f : FileState). f.bytes) (option_map (λ bytes. record { bytes = bytes; front = length bytes; named = true }) was) ≡ was
     twice None = refl
     twice (Some bytes) = refl
+
+-- ---- a writer that has done nothing since
+
+-- of a chunk without an event nothing stands in it
+none_of_chunk : (ns : List Note) (name : ChunkName) → ((n : Note) → IsOneOf n ns → chunk_of n ≢ name) → in_chunk name (placed_of ns) ≡ []
+none_of_chunk [] name h = refl
+none_of_chunk (Own content chunk ∷ ns) name h = skip (is_name name chunk) refl ∙ none_of_chunk ns name (λ n i. h n (inr i)) where
+  skip : (b : Bool) → is_name name chunk ≡ b → cond b (content ∷ in_chunk name (placed_of ns)) (in_chunk name (placed_of ns)) ≡ in_chunk name (placed_of ns)
+  skip true e = absurd (h (Own content chunk) (inl refl) (sym (is_name-true name chunk e)))
+  skip false e = refl
+none_of_chunk (Dead id chunk ∷ ns) name h = none_of_chunk ns name (λ n i. h n (inr i))
+
+pub opened_tells : (w : Written) (es : List NotedEvent) (b : WriterStart) → Opens w.partition es b → HasDoneNothing w → Tells w es (fresh_account b.maps)
+opened_tells w es b opens nothing = record {
+  telling = opens.telling;
+  durable = opens.content;
+  kept = [];
+  lost = [];
+  records = nothing.records;
+  one_lost = ap (λ (x : Bool). if x then 1 else 0) (sym nothing.lost);
+  maps = refl;
+  tail = ap (λ (xs : List Placed). commands_of (records_of xs)) (sym nothing.records);
+  low = b.first;
+  below = opens.below;
+  since = subst (λ (xs : List Placed). Rising b.first (records_of xs)) (sym nothing.records) tt;
+  placed = subst (λ (xs : List Placed). All (IsPlaced w.partition) (placed_of (notes es) ++ xs)) (sym nothing.records)
+      (subst (All (IsPlaced w.partition)) (sym (append-nil (placed_of (notes es)))) opens.placed);
+  dead = λ id chunk i. opens.sealed (Dead id chunk) i;
+  partition = λ name file e. absurd (none_some file (sym (nothing.files name) ∙ e));
+  at = λ name of. subst (λ (xs : List Placed). IsWritersAt (seal_of es name) (w.files name) (in_chunk name (placed_of (notes es))) (in_chunk name xs)) (sym nothing.records)
+      (subst (λ (f : Option FileState). IsWritersAt (seal_of es name) f (in_chunk name (placed_of (notes es))) []) (sym (nothing.files name)) (by_seal name (seal_of es name) refl));
+  none_gone = nothing.none_gone;
+} where
+  sealed_by : (s : Option FileState) → s ≡ None → IsSome s → ⊥
+  sealed_by None e h = absurd (true≢false (sym h))
+  sealed_by (Some f) e h = none_some f (sym e)
+
+  by_seal : (name : ChunkName) (s : Option FileState) → seal_of es name ≡ s → IsWritersAt s None (in_chunk name (placed_of (notes es))) []
+  by_seal name (Some f) e = (refl, refl)
+  by_seal name None e = none_of_chunk (notes es) name (λ n i same. sealed_by (seal_of es (chunk_of n)) (ap (seal_of es) same ∙ e) (opens.sealed n i))

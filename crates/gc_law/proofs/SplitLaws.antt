@@ -14,7 +14,7 @@ use Rattle.record_format.specs.Splits.{IsOfClass, SpellsNone, IsTorn}
 use Rattle.record_format.proofs.HeaderLaws.{header_seq-append, header_key-append, header_value-append}
 use Rattle.crash_law.specs.Chunks.{LeavesFront}
 use Rattle.crash_law.proofs.ChunkLaws.{leaves_front}
-use Rattle.gc_law.specs.Tells.{HoldsSplit}
+use Rattle.gc_law.specs.CollectorFacts.{HoldsSplit}
 
 -- two cuts of one list
 cut : (a b x y : List ℕ) → a ++ x ≡ b ++ y → length a ≤ length b → (z : List ℕ) × (b ≡ a ++ z) × (x ≡ z ++ y)

@@ -1,5 +1,5 @@
 -- A collector's steps keep its facts.
-use Rattle.std.specs.Prelude.{◌≡◌, ◌≢◌, ◌⊎◌, ℕ, ◌≤◌, Bool, true, false, cond, List, [], ◌∷◌, ◌++◌, length, take, All, Option, Some, None, IsSome, refl}
+use Rattle.std.specs.Prelude.{◌≡◌, ◌≢◌, ◌⊎◌, ℕ, ◌≤◌, Bool, true, false, not, cond, List, [], ◌∷◌, ◌++◌, length, take, All, Option, Some, None, IsSome, refl}
 use Rattle.std.proofs.Common.{sym, ◌∙◌, ap, subst, inl, inr, arith, true≢false, append_assoc, length-append}
 use Rattle.std.specs.Option.{option_map}
 use Rattle.std.proofs.lemmas.List.{append-nil}
@@ -14,7 +14,7 @@ use Rattle.hr_base.specs.Entries.{Key}
 use Rattle.hr_base.specs.Names.{class_of_kind}
 use Rattle.hr_base.specs.NameTests.{is_name}
 use Rattle.hr_base.proofs.NameTestLaws.{is_name-true, is_name-same, same_name_or_not}
-use Rattle.dir_files.specs.Files.{FileState, Files, Rises, new_file, with_bytes}
+use Rattle.dir_files.specs.Files.{FileState, Files, Names, Rises, new_file, with_bytes}
 use Rattle.record_format.specs.declared.record.Record.{Record}
 use Rattle.record_format.specs.Spelling.{seq_of, class_of_record, spelling, spellings}
 use Rattle.record_format.specs.Splits.{Splits, IsOfClass}
@@ -27,10 +27,11 @@ use Rattle.crash_law.proofs.NumberedLaws.{Contains-from_in}
 use Rattle.crash_law.proofs.PlacedLaws.{in_front, in_append}
 use Rattle.gc_event.specs.Notes.{IsOneOf, Identity, identity_of, Note, Own, Dead, id_of, chunk_of, number_of, top, Occurrence, occurrence, NoSmallerValue}
 use Rattle.gc_law.specs.Events.{NotedEvent, RecordEvent, SealEvent, notes, seal_of, NotFalling, SealsLast, IsSealedFile, IsTelling, IsTold}
-use Rattle.gc_law.specs.Tells.{Gathered, HoldsSplit, IsSafeAt, IsSafe, HasPlace, KeepsBy, KeepsTop, IsGatheredFile, KeptBy, or_file}
-use Rattle.gc_law.specs.Steps.{HearsNote, HearsSeal, Begins, Copies, Secures, IsSpare, Removes, Fixes}
+use Rattle.dir_files.specs.Ports.{either_file}
+use Rattle.gc_law.specs.CollectorFacts.{Gathered, HoldsSplit, IsSafeAt, IsSafe, HasPlace, KeepsBy, KeepsTop, IsGatheredFile, KeptBy, nothing_gathered}
+use Rattle.gc_law.specs.Steps.{HearsNote, HearsSeal, Begins, Copy, Copies, Secures, IsSpare, Removes, outside, Fixes}
 use Rattle.gc_event.proofs.NoteLaws.{top_is, top-push_cases}
-use Rattle.gc_law.proofs.EventLaws.{one_of_append, one_of_left, one_of_right, notes-append, seal_of-append, closed_behind, falling_across}
+use Rattle.gc_law.proofs.EventLaws.{in_filter, from_filter, one_of_append, one_of_left, one_of_right, notes-append, seal_of-append, closed_behind, falling_across}
 
 -- ---- what is kept of a top
 
@@ -76,7 +77,7 @@ known_later p heard more r (inr f) = inr (record {
   whole = f.whole;
   has = f.has;
 }) where
-  left_some : (x y : Option FileState) (b : List ℕ) → option_map (λ (file : FileState). file.bytes) x ≡ Some b → option_map (λ (file : FileState). file.bytes) (or_file x y) ≡ Some b
+  left_some : (x y : Option FileState) (b : List ℕ) → option_map (λ (file : FileState). file.bytes) x ≡ Some b → option_map (λ (file : FileState). file.bytes) (either_file x y) ≡ Some b
   left_some None y b e = absurd (none_some b e)
   left_some (Some g) y b e = e
 
@@ -89,7 +90,7 @@ gathered_later p heard more present others name file there h = record {
   split = h.split;
   torn = h.torn;
   marked = λ r i. there (occurrence (identity_of r) name) (h.marked r i) refl;
-  known = λ r i. known_later p heard more r (h.known r i);
+  told = λ r i. known_later p heard more r (h.told r i);
 }
 
 gathered_same : (p : ℕ) (heard : List NotedEvent) (present others : List Occurrence) (name : ChunkName) (file : FileState)
@@ -101,7 +102,7 @@ gathered_same p heard present others name file there h = record {
   split = h.split;
   torn = h.torn;
   marked = λ r i. there (occurrence (identity_of r) name) (h.marked r i) refl;
-  known = h.known;
+  told = h.told;
 }
 
 gathered_bytes : (p : ℕ) (heard : List NotedEvent) (present : List Occurrence) (name : ChunkName) (file other : FileState) → other.bytes ≡ file.bytes → IsGatheredFile p heard present name file → IsGatheredFile p heard present name other
@@ -112,8 +113,16 @@ gathered_bytes p heard present name file other e h = record {
   split = subst (λ (b : List ℕ). Splits (class_of_kind name.kind) b h.records h.rest) (sym e) h.split;
   torn = h.torn;
   marked = h.marked;
-  known = h.known;
+  told = h.told;
 }
+
+-- ---- what is present outside some chunks
+
+pub still_present : (c t : Gathered) (removed : Names) → t.present ≡ outside removed c.present → (o : Occurrence) → IsOneOf o c.present → removed o.chunk ≡ false → IsOneOf o t.present
+still_present c t removed e o i stays = subst (λ (os : List Occurrence). IsOneOf o os) (sym e) (in_filter (λ (x : Occurrence). not (removed x.chunk)) c.present o i (ap not stays))
+
+pub was_present : (c t : Gathered) (removed : Names) → t.present ≡ outside removed c.present → (o : Occurrence) → IsOneOf o t.present → IsOneOf o c.present
+was_present c t removed e o i = (from_filter (λ (x : Occurrence). not (removed x.chunk)) c.present o (subst (λ (os : List Occurrence). IsOneOf o os) e i)).0
 
 -- ---- a record event is heard
 
@@ -126,7 +135,7 @@ module _ (p : ℕ) (heard unheard : List NotedEvent) (c t : Gathered) (n : Note)
 
   pub seal_same : (name : ChunkName) → seal_of (heard ++ RecordEvent n ∷ []) name ≡ seal_of heard name
   seal_same name = seal_of-append heard (RecordEvent n ∷ []) name ∙ or_none (seal_of heard name) where
-    or_none : (x : Option FileState) → or_file x None ≡ x
+    or_none : (x : Option FileState) → either_file x None ≡ x
     or_none None = refl
     or_none (Some g) = refl
 
@@ -185,9 +194,9 @@ module _ (p : ℕ) (heard unheard : List NotedEvent) (c t : Gathered) (n : Note)
     tops = tops_heard;
     files = λ name file of e. gathered_later p heard (RecordEvent n ∷ []) c.present t.present name file (λ o i _. present_left o i) (h.files name file of (sym (hears.files name) ∙ e));
     gone = λ name file of e. gathered_later p heard (RecordEvent n ∷ []) c.present t.present name file (λ o i _. present_left o i) (h.gone name file of (sym (hears.gone name) ∙ e));
-    told = λ o i. elim (one_of_append c.present (occurrence (id_of n) (chunk_of n) ∷ []) o (subst (λ (os : List Occurrence). IsOneOf o os) hears.present i)) [
+    noted = λ o i. elim (one_of_append c.present (occurrence (id_of n) (chunk_of n) ∷ []) o (subst (λ (os : List Occurrence). IsOneOf o os) hears.present i)) [
       | inl before ↦
-          let w = h.told o before in
+          let w = h.noted o before in
           (w.0, subst (λ (ns : List Note). IsOneOf w.0 ns) (sym notes_same) (one_of_left (notes heard) (n ∷ []) w.0 w.1), w.2)
       | inr now ↦ elim now [
         | inl e ↦ (n, subst (λ (ns : List Note). IsOneOf n ns) (sym notes_same) (one_of_right (notes heard) (n ∷ []) n (inl refl)), ap (λ (x : Occurrence). x.id) (sym e))
@@ -225,7 +234,7 @@ module _ (p : ℕ) (heard unheard : List NotedEvent) (c t : Gathered) (name : Ch
   sealed_all : seal_of (heard ++ SealEvent name file size ∷ unheard) name ≡ Some file
   sealed_all =
       seal_of-append heard (SealEvent name file size ∷ unheard) name
-      ∙ ap (λ (x : Option FileState). or_file x (cond (is_name name name) (Some file) (seal_of unheard name))) not_sealed
+      ∙ ap (λ (x : Option FileState). either_file x (cond (is_name name name) (Some file) (seal_of unheard name))) not_sealed
       ∙ sealed_here_by (is_name name name) (seal_of unheard name) (is_name-same name)
 
   pub sealed : IsSealedFile p (heard ++ SealEvent name file size ∷ unheard) name file
@@ -252,7 +261,7 @@ module _ (p : ℕ) (heard unheard : List NotedEvent) (c t : Gathered) (name : Ch
 
   pub seal_other : (other : ChunkName) → other ≢ name → seal_of now other ≡ seal_of heard other
   seal_other other ne = seal_of-append heard (SealEvent name file size ∷ []) other ∙ by_other (is_name other name) refl (seal_of heard other) where
-    by_other : (b : Bool) → is_name other name ≡ b → (x : Option FileState) → or_file x (cond b (Some file) None) ≡ x
+    by_other : (b : Bool) → is_name other name ≡ b → (x : Option FileState) → either_file x (cond b (Some file) None) ≡ x
     by_other true e x = absurd (ne (is_name-true other name e))
     by_other false e None = refl
     by_other false e (Some g) = refl
@@ -298,7 +307,7 @@ module _ (p : ℕ) (heard unheard : List NotedEvent) (c t : Gathered) (name : Ch
         let there = h.unsealed w.note (noted_heard w.note w.member w.chunk) (ap (seal_of heard) w.chunk ∙ not_sealed) in
         subst (λ (os : List Occurrence). IsOneOf (occurrence (identity_of r) name) os) (sym hears.present)
         (subst (λ (id : Identity). IsOneOf (occurrence id name) c.present) w.is (subst (λ (x : ChunkName). IsOneOf (occurrence (id_of w.note) x) c.present) w.chunk there));
-    known = λ r i. inr (record {
+    told = λ r i. inr (record {
       name = name;
       bytes = file.bytes;
       records = sealed.records;
@@ -312,7 +321,7 @@ module _ (p : ℕ) (heard unheard : List NotedEvent) (c t : Gathered) (name : Ch
     sealed_now : seal_of now name ≡ Some file
     sealed_now =
         seal_of-append heard (SealEvent name file size ∷ []) name
-        ∙ ap (λ (x : Option FileState). or_file x (cond (is_name name name) (Some file) None)) not_sealed
+        ∙ ap (λ (x : Option FileState). either_file x (cond (is_name name name) (Some file) None)) not_sealed
         ∙ sealed_here_by (is_name name name) None (is_name-same name)
 
   same_present : (o : Occurrence) → IsOneOf o c.present → IsOneOf o t.present
@@ -334,12 +343,12 @@ module _ (p : ℕ) (heard unheard : List NotedEvent) (c t : Gathered) (name : Ch
         (λ none. subst (λ (os : List Occurrence). NoSmallerValue os k (seq_of r)) (sym hears.present) none)) (h.tops k));
     files = files_now;
     gone = λ other f of e. gathered_later p heard (SealEvent name file size ∷ []) c.present t.present other f (λ o i _. same_present o i) (h.gone other f of (sym (hears.gone other) ∙ e));
-    told = λ o i.
-        let w = h.told o (subst (λ (os : List Occurrence). IsOneOf o os) hears.present i) in
+    noted = λ o i.
+        let w = h.noted o (subst (λ (os : List Occurrence). IsOneOf o os) hears.present i) in
         (w.0, subst (λ (ns : List Note). IsOneOf w.0 ns) (sym notes_now) w.1, w.2);
     unsealed = λ m i e. same_present _ (h.unsealed m (subst (λ (ns : List Note). IsOneOf m ns) notes_now i) (before (seal_of heard (chunk_of m)) (seal_of (SealEvent name file size ∷ []) (chunk_of m)) (sym (seal_of-append heard (SealEvent name file size ∷ []) (chunk_of m)) ∙ e)));
   } where
-    before : (x y : Option FileState) → or_file x y ≡ None → x ≡ None
+    before : (x y : Option FileState) → either_file x y ≡ None → x ≡ None
     before None y e = refl
     before (Some g) y e = absurd (none_some g (sym e))
 
@@ -396,7 +405,7 @@ module _ (p : ℕ) (heard : List NotedEvent) (c t : Gathered) (h : KeptBy p hear
         subst (λ (os : List Occurrence). IsGatheredFile p heard os name file) (sym s.present)
         (risen_file name (c.files name) file of refl e (subst (λ (x : Option FileState). Rises (c.files name) x) e (s.rises name of)));
     gone = λ name file of e. subst (λ (os : List Occurrence). IsGatheredFile p heard os name file) (sym s.present) (h.gone name file of (s.gone name file of e));
-    told = λ o i. h.told o (subst (λ (os : List Occurrence). IsOneOf o os) s.present i);
+    noted = λ o i. h.noted o (subst (λ (os : List Occurrence). IsOneOf o os) s.present i);
     unsealed = λ n i e. subst (λ (os : List Occurrence). IsOneOf (occurrence (id_of n) (chunk_of n)) os) (sym s.present) (h.unsealed n i e);
   }
 
@@ -410,7 +419,7 @@ module _ (p : ℕ) (heard : List NotedEvent) (c t : Gathered) (h : KeptBy p hear
     split = whole_spellings_split (class_of_kind name.kind) [] (All-nil (IsOfClass (class_of_kind name.kind)));
     torn = nothing_is_torn (class_of_kind name.kind);
     marked = λ r i. absurd i;
-    known = λ r i. absurd i;
+    told = λ r i. absurd i;
   }
 
   pub kept_begun : (name : ChunkName) → Begins c t name → KeptBy p heard t
@@ -424,7 +433,7 @@ module _ (p : ℕ) (heard : List NotedEvent) (c t : Gathered) (h : KeptBy p hear
           | inr ne ↦ h.files other file of (sym (b.files.others other ne) ∙ e)
         ]);
     gone = λ other file of e. subst (λ (os : List Occurrence). IsGatheredFile p heard os other file) (sym b.present) (h.gone other file of (sym (b.gone other) ∙ e));
-    told = λ o i. h.told o (subst (λ (os : List Occurrence). IsOneOf o os) b.present i);
+    noted = λ o i. h.noted o (subst (λ (os : List Occurrence). IsOneOf o os) b.present i);
     unsealed = λ n i e. subst (λ (os : List Occurrence). IsOneOf (occurrence (id_of n) (chunk_of n)) os) (sym b.present) (h.unsealed n i e);
   }
 
@@ -434,19 +443,19 @@ module _ (p : ℕ) (heard : List NotedEvent) (c t : Gathered) (h : KeptBy p hear
   kept_removed name at m spare = record {
     tops = tops_on p heard c t (λ k r chunk e. kept_by k r chunk e) h.tops;
     files = λ other file of e.
-        subst (λ (os : List Occurrence). IsGatheredFile p heard os other file) (sym m.present)
+        subst (λ (os : List Occurrence). IsGatheredFile p heard os other file) (sym m.stays)
         (elim (same_name_or_not other name) [
           | inl same ↦ absurd (none_some file (sym m.files.at ∙ (ap t.files (sym same) ∙ e)))
           | inr ne ↦ h.files other file of (sym (m.files.others other ne) ∙ e)
         ]);
     gone = λ other file of e.
-        subst (λ (os : List Occurrence). IsGatheredFile p heard os other file) (sym m.present)
+        subst (λ (os : List Occurrence). IsGatheredFile p heard os other file) (sym m.stays)
         (elim (same_name_or_not other name) [
           | inl same ↦ h.files other file of (ap c.files same ∙ (m.there ∙ (sym m.gone.at ∙ (ap t.gone (sym same) ∙ e))))
           | inr ne ↦ h.gone other file of (sym (m.gone.others other ne) ∙ e)
         ]);
-    told = λ o i. h.told o (subst (λ (os : List Occurrence). IsOneOf o os) m.present i);
-    unsealed = λ n i e. subst (λ (os : List Occurrence). IsOneOf (occurrence (id_of n) (chunk_of n)) os) (sym m.present) (h.unsealed n i e);
+    noted = λ o i. h.noted o (subst (λ (os : List Occurrence). IsOneOf o os) m.stays i);
+    unsealed = λ n i e. subst (λ (os : List Occurrence). IsOneOf (occurrence (id_of n) (chunk_of n)) os) (sym m.stays) (h.unsealed n i e);
   } where
     bare_by : (class : Class) (kept bare : Type 0) → (class ≢ Values) → bare → KeepsBy class kept bare
     bare_by Values kept bare apart b = absurd (apart refl)
@@ -462,7 +471,7 @@ module _ (p : ℕ) (heard : List NotedEvent) (c t : Gathered) (h : KeptBy p hear
       | inl none ↦ keeps_placed (class_of_record r) _ _ (inl none)
       | inr more ↦ elim more [
         | inl other ↦ keeps_placed (class_of_record r) _ _ (inr (other.0, other.1, stays other.0 r other.2 other.3))
-        | inr bare ↦ bare_by (class_of_record r) _ _ bare.0 (subst (λ (os : List Occurrence). NoSmallerValue os k (seq_of r)) (sym m.present) bare.1)
+        | inr bare ↦ bare_by (class_of_record r) _ _ bare.0 (subst (λ (os : List Occurrence). NoSmallerValue os k (seq_of r)) (sym m.stays) bare.1)
       ]
     ]
 
@@ -489,19 +498,19 @@ module _ (p : ℕ) (heard : List NotedEvent) (c t : Gathered) (h : KeptBy p hear
         → KeepsBy (class_of_record r) (HasPlace p heard c.files r chunk) (NoSmallerValue c.present k (seq_of r)) → KeepsBy (class_of_record r) (HasPlace p heard t.files r chunk) (NoSmallerValue t.present k (seq_of r))
     kept_by k r chunk e x =
         kept_class (class_of_record r) _ _ (NoSmallerValue t.present k (seq_of r)) _ (placed_on k r chunk e)
-        (λ apart b. bare_by (class_of_record r) _ _ apart (subst (λ (os : List Occurrence). NoSmallerValue os k (seq_of r)) (sym m.present) b)) x
+        (λ apart b. bare_by (class_of_record r) _ _ apart (subst (λ (os : List Occurrence). NoSmallerValue os k (seq_of r)) (sym m.stays) b)) x
 
   -- ---- removals are made good
 
   pub kept_fixed : (removed : ChunkName → Bool) → Fixes p heard c t removed → KeptBy p heard t
   kept_fixed removed f = record {
-    tops = tops_on p heard c t (λ k r chunk e. keeps_more (class_of_record r) _ _ _ _ (place_by p heard c t r chunk (risen_safe f.files r)) (λ none o i. none o (f.present o i).0)) h.tops;
+    tops = tops_on p heard c t (λ k r chunk e. keeps_more (class_of_record r) _ _ _ _ (place_by p heard c t r chunk (risen_safe f.files r)) (λ none o i. none o (was_present c t removed f.forgotten o i))) h.tops;
     files = λ name file of e.
-        gathered_same p heard c.present t.present name file (λ o i same. f.kept o i (stays_by name file (c.files name) of refl e (subst (λ (x : Option FileState). Rises (c.files name) x) e (f.files name of)) o same))
+        gathered_same p heard c.present t.present name file (λ o i same. still_present c t removed f.forgotten o i (stays_by name file (c.files name) of refl e (subst (λ (x : Option FileState). Rises (c.files name) x) e (f.files name of)) o same))
         (risen_file name (c.files name) file of refl e (subst (λ (x : Option FileState). Rises (c.files name) x) e (f.files name of)));
     gone = λ name file of e. absurd (none_some file (sym (f.gone name of) ∙ e));
-    told = λ o i. h.told o (f.present o i).0;
-    unsealed = λ n i e. f.kept (occurrence (id_of n) (chunk_of n)) (h.unsealed n i e) (open_by n i e (removed (chunk_of n)) refl);
+    noted = λ o i. h.noted o (was_present c t removed f.forgotten o i);
+    unsealed = λ n i e. still_present c t removed f.forgotten (occurrence (id_of n) (chunk_of n)) (h.unsealed n i e) (open_by n i e (removed (chunk_of n)) refl);
   } where
     stays_by : (name : ChunkName) (file : FileState) (old : Option FileState) → name.partition.0 ≡ p → c.files name ≡ old → t.files name ≡ Some file → Rises old (Some file) → (o : Occurrence) → o.chunk ≡ name → removed o.chunk ≡ false
     stays_by name file None of e there more o same = absurd (none_some file (sym more))
@@ -523,38 +532,37 @@ each_left P (x ∷ xs) ys h = (h.0, each_left P xs ys h.1)
 
 -- ---- a copy is appended
 
-module _ (p : ℕ) (heard : List NotedEvent) (c t : Gathered) (h : KeptBy p heard c) (name : ChunkName) (r : Record) (piece missing : List ℕ)
-    (at : name.partition.0 ≡ p) (copies : Copies p heard c t name r piece missing) where
-  after_bytes : spellings (copies.records ++ r ∷ []) ≡ (copies.file.bytes ++ piece) ++ missing
+module _ (p : ℕ) (heard : List NotedEvent) (c t : Gathered) (h : KeptBy p heard c) (q : Copy) (at : q.target.partition.0 ≡ p) (copies : Copies p heard c t q) where
+  after_bytes : spellings (copies.records ++ q.content ∷ []) ≡ (copies.file.bytes ++ q.piece) ++ q.missing
   after_bytes =
-      flat_map-append spelling copies.records (r ∷ [])
-      ∙ ap (λ (b : List ℕ). spellings copies.records ++ b) (append-nil (spelling r) ∙ copies.spelled)
-      ∙ ap (λ (b : List ℕ). b ++ (piece ++ missing)) (sym copies.whole)
-      ∙ sym (append_assoc copies.file.bytes piece missing)
+      flat_map-append spelling copies.records (q.content ∷ [])
+      ∙ ap (λ (b : List ℕ). spellings copies.records ++ b) (append-nil (spelling q.content) ∙ copies.spelled)
+      ∙ ap (λ (b : List ℕ). b ++ (q.piece ++ q.missing)) (sym copies.whole)
+      ∙ sym (append_assoc copies.file.bytes q.piece q.missing)
 
-  front : PrefixSplit (class_of_kind name.kind) (copies.records ++ r ∷ []) (copies.file.bytes ++ piece)
-  front = a_prefix_splits (class_of_kind name.kind) (copies.records ++ r ∷ []) (copies.file.bytes ++ piece) missing copies.valid after_bytes
+  front : PrefixSplit (class_of_kind q.target.kind) (copies.records ++ q.content ∷ []) (copies.file.bytes ++ q.piece)
+  front = a_prefix_splits (class_of_kind q.target.kind) (copies.records ++ q.content ∷ []) (copies.file.bytes ++ q.piece) q.missing copies.valid after_bytes
 
-  old_split : Splits (class_of_kind name.kind) copies.file.bytes copies.records []
+  old_split : Splits (class_of_kind q.target.kind) copies.file.bytes copies.records []
   old_split =
-      subst (λ (b : List ℕ). Splits (class_of_kind name.kind) b copies.records []) (sym copies.whole)
-      (whole_spellings_split (class_of_kind name.kind) copies.records (valid_front copies.records copies.valid)) where
-        valid_front : (rs : List Record) → All (IsOfClass (class_of_kind name.kind)) (rs ++ r ∷ []) → All (IsOfClass (class_of_kind name.kind)) rs
-        valid_front rs each = All-from_recursion (IsOfClass (class_of_kind name.kind)) rs (each_left (IsOfClass (class_of_kind name.kind)) rs (r ∷ []) (recursion_from_All (IsOfClass (class_of_kind name.kind)) (rs ++ r ∷ []) each))
+      subst (λ (b : List ℕ). Splits (class_of_kind q.target.kind) b copies.records []) (sym copies.whole)
+      (whole_spellings_split (class_of_kind q.target.kind) copies.records (valid_front copies.records copies.valid)) where
+        valid_front : (rs : List Record) → All (IsOfClass (class_of_kind q.target.kind)) (rs ++ q.content ∷ []) → All (IsOfClass (class_of_kind q.target.kind)) rs
+        valid_front rs each = All-from_recursion (IsOfClass (class_of_kind q.target.kind)) rs (each_left (IsOfClass (class_of_kind q.target.kind)) rs (q.content ∷ []) (recursion_from_All (IsOfClass (class_of_kind q.target.kind)) (rs ++ q.content ∷ []) each))
 
-  old_file : IsGatheredFile p heard c.present name copies.file
-  old_file = h.files name copies.file at copies.there
+  old_file : IsGatheredFile p heard c.present q.target copies.file
+  old_file = h.files q.target copies.file at copies.there
 
   present_kept : (o : Occurrence) → IsOneOf o c.present → IsOneOf o t.present
-  present_kept o i = subst (λ (os : List Occurrence). IsOneOf o os) (sym copies.present) (one_of_left c.present (occurrence (identity_of r) name ∷ []) o i)
+  present_kept o i = subst (λ (os : List Occurrence). IsOneOf o os) (sym copies.present) (one_of_left c.present (occurrence (identity_of q.content) q.target ∷ []) o i)
 
   -- what is present now was so before, in some chunk
   present_before : (o : Occurrence) → IsOneOf o t.present → (from : ChunkName) × IsOneOf (occurrence o.id from) c.present
   present_before o i =
-      elim (one_of_append c.present (occurrence (identity_of r) name ∷ []) o (subst (λ (os : List Occurrence). IsOneOf o os) copies.present i)) [
+      elim (one_of_append c.present (occurrence (identity_of q.content) q.target ∷ []) o (subst (λ (os : List Occurrence). IsOneOf o os) copies.present i)) [
         | inl before ↦ (o.chunk, before)
         | inr now ↦ elim now [
-          | inl e ↦ (copies.from, subst (λ (id : Identity). IsOneOf (occurrence id copies.from) c.present) (ap (λ (x : Occurrence). x.id) (sym e)) copies.before)
+          | inl e ↦ (q.source, subst (λ (id : Identity). IsOneOf (occurrence id q.source) c.present) (ap (λ (x : Occurrence). x.id) (sym e)) copies.copied)
           | inr more ↦ absurd more
         ]
       ]
@@ -566,45 +574,45 @@ module _ (p : ℕ) (heard : List NotedEvent) (c t : Gathered) (h : KeptBy p hear
 
   -- a record of the file before
   in_old : (s : Record) → IsIn s copies.records → IsIn s old_file.records
-  in_old s i = subst (λ (rs : List Record). IsIn s rs) (one_split (class_of_kind name.kind) copies.file.bytes copies.records old_file.records [] old_file.rest old_split old_file.split).0 i
+  in_old s i = subst (λ (rs : List Record). IsIn s rs) (one_split (class_of_kind q.target.kind) copies.file.bytes copies.records old_file.records [] old_file.rest old_split old_file.split).0 i
 
-  copy_gathered : IsGatheredFile p heard t.present name (with_bytes copies.file piece)
+  copy_gathered : IsGatheredFile p heard t.present q.target (with_bytes copies.file q.piece)
   copy_gathered = record {
-    small = omega (arith, copies.within, length-append copies.file.bytes piece);
-    records = take front.count (copies.records ++ r ∷ []);
+    small = omega (arith, copies.within, length-append copies.file.bytes q.piece);
+    records = take front.count (copies.records ++ q.content ∷ []);
     rest = front.left;
     split = front.split;
     torn = front.torn;
-    marked = λ s i. elim (in_append copies.records (r ∷ []) s (in_front front.count (copies.records ++ r ∷ []) s i)) [
+    marked = λ s i. elim (in_append copies.records (q.content ∷ []) s (in_front front.count (copies.records ++ q.content ∷ []) s i)) [
       | inl before ↦ present_kept _ (old_file.marked s (in_old s before))
       | inr now ↦ elim now [
-        | inl e ↦ subst (λ (x : Record). IsOneOf (occurrence (identity_of x) name) t.present) (sym e)
-            (subst (λ (os : List Occurrence). IsOneOf (occurrence (identity_of r) name) os) (sym copies.present) (one_of_right c.present (occurrence (identity_of r) name ∷ []) _ (inl refl)))
+        | inl e ↦ subst (λ (x : Record). IsOneOf (occurrence (identity_of x) q.target) t.present) (sym e)
+            (subst (λ (os : List Occurrence). IsOneOf (occurrence (identity_of q.content) q.target) os) (sym copies.present) (one_of_right c.present (occurrence (identity_of q.content) q.target ∷ []) _ (inl refl)))
         | inr more ↦ absurd more
       ]
     ];
-    known = λ s i. elim (in_append copies.records (r ∷ []) s (in_front front.count (copies.records ++ r ∷ []) s i)) [
-      | inl before ↦ old_file.known s (in_old s before)
-      | inr now ↦ elim now [ inl e ↦ subst (IsTold p heard) (sym e) copies.source | inr more ↦ absurd more ]
+    told = λ s i. elim (in_append copies.records (q.content ∷ []) s (in_front front.count (copies.records ++ q.content ∷ []) s i)) [
+      | inl before ↦ old_file.told s (in_old s before)
+      | inr now ↦ elim now [ inl e ↦ subst (IsTold p heard) (sym e) copies.told | inr more ↦ absurd more ]
     ];
   }
 
   -- what was safe in the copy file still is
-  pub safe_here : (s : Record) → IsSafeAt c.files name s → IsSafeAt t.files name s
+  pub safe_here : (s : Record) → IsSafeAt c.files q.target s → IsSafeAt t.files q.target s
   safe_here s x =
       let is : x.file ≡ copies.file = one_some x.file copies.file (sym x.there ∙ copies.there) in
-      let holds : HoldsSplit (class_of_kind name.kind) copies.file x.safe x.more x.rest = subst (λ (f : FileState). HoldsSplit (class_of_kind name.kind) f x.safe x.more x.rest) is x.holds in
-      let same = one_split (class_of_kind name.kind) copies.file.bytes copies.records (x.safe ++ x.more) [] x.rest old_split holds.split in
-      let records : copies.records ++ r ∷ [] ≡ x.safe ++ (x.more ++ r ∷ []) = ap (λ (rs : List Record). rs ++ r ∷ []) same.0 ∙ append_assoc x.safe x.more (r ∷ []) in
-      let left : LeavesFront (class_of_kind name.kind) x.safe (x.more ++ r ∷ []) (copies.file.bytes ++ piece) =
-      leaves_front (class_of_kind name.kind) (record { bytes = copies.file.bytes ++ piece; front = copies.file.front; named = true }) x.safe (x.more ++ r ∷ []) missing (copies.file.bytes ++ piece)
-      (subst (All (IsOfClass (class_of_kind name.kind))) records copies.valid)
+      let holds : HoldsSplit (class_of_kind q.target.kind) copies.file x.safe x.more x.rest = subst (λ (f : FileState). HoldsSplit (class_of_kind q.target.kind) f x.safe x.more x.rest) is x.holds in
+      let same = one_split (class_of_kind q.target.kind) copies.file.bytes copies.records (x.safe ++ x.more) [] x.rest old_split holds.split in
+      let records : copies.records ++ q.content ∷ [] ≡ x.safe ++ (x.more ++ q.content ∷ []) = ap (λ (rs : List Record). rs ++ q.content ∷ []) same.0 ∙ append_assoc x.safe x.more (q.content ∷ []) in
+      let left : LeavesFront (class_of_kind q.target.kind) x.safe (x.more ++ q.content ∷ []) (copies.file.bytes ++ q.piece) =
+      leaves_front (class_of_kind q.target.kind) (record { bytes = copies.file.bytes ++ q.piece; front = copies.file.front; named = true }) x.safe (x.more ++ q.content ∷ []) q.missing (copies.file.bytes ++ q.piece)
+      (subst (All (IsOfClass (class_of_kind q.target.kind))) records copies.valid)
       (record { bytes = ap spellings (sym records) ∙ after_bytes; front = holds.front; named = inr refl })
-      (record { rest = []; prefix = sym (append-nil (copies.file.bytes ++ piece)); front = front_fits holds }) in
+      (record { rest = []; prefix = sym (append-nil (copies.file.bytes ++ q.piece)); front = front_fits holds }) in
       record {
-        file = with_bytes copies.file piece;
+        file = with_bytes copies.file q.piece;
         safe = x.safe;
-        more = take left.count (x.more ++ r ∷ []);
+        more = take left.count (x.more ++ q.content ∷ []);
         rest = left.rest;
         there = copies.files.at;
         named = subst (λ (f : FileState). f.named ≡ true) is x.named;
@@ -612,39 +620,39 @@ module _ (p : ℕ) (heard : List NotedEvent) (c t : Gathered) (h : KeptBy p hear
         has = x.has;
       }
     where
-      front_fits : HoldsSplit (class_of_kind name.kind) copies.file x.safe x.more x.rest → copies.file.front ≤ length (copies.file.bytes ++ piece)
-      front_fits holds = omega (arith, copies.fits, length-append copies.file.bytes piece)
+      front_fits : HoldsSplit (class_of_kind q.target.kind) copies.file x.safe x.more x.rest → copies.file.front ≤ length (copies.file.bytes ++ q.piece)
+      front_fits holds = omega (arith, copies.fits, length-append copies.file.bytes q.piece)
 
   safe_copied : (s : Record) → IsSafe p c.files s → IsSafe p t.files s
-  safe_copied s x = elim (same_name_or_not x.0 name) [
-    | inl same ↦ (name, at, safe_here s (subst (λ (n : ChunkName). IsSafeAt c.files n s) same x.2))
+  safe_copied s x = elim (same_name_or_not x.0 q.target) [
+    | inl same ↦ (q.target, at, safe_here s (subst (λ (n : ChunkName). IsSafeAt c.files n s) same x.2))
     | inr ne ↦ (x.0, x.1, safe_same c.files t.files x.0 s (copies.files.others x.0 ne) x.2)
   ]
 
   pub kept_copied : KeptBy p heard t
   kept_copied = record {
     tops = tops_on p heard c t (λ k s chunk e. keeps_more (class_of_record s) _ _ _ _ (place_by p heard c t s chunk (safe_copied s)) (none_on k (seq_of s))) h.tops;
-    files = λ other file of e. elim (same_name_or_not other name) [
+    files = λ other file of e. elim (same_name_or_not other q.target) [
       | inl same ↦
           subst (λ (n : ChunkName). IsGatheredFile p heard t.present n file) (sym same)
-          (subst (IsGatheredFile p heard t.present name) (one_some (with_bytes copies.file piece) file (sym copies.files.at ∙ (ap t.files (sym same) ∙ e))) copy_gathered)
+          (subst (IsGatheredFile p heard t.present q.target) (one_some (with_bytes copies.file q.piece) file (sym copies.files.at ∙ (ap t.files (sym same) ∙ e))) copy_gathered)
       | inr ne ↦ gathered_same p heard c.present t.present other file (λ o i _. present_kept o i) (h.files other file of (sym (copies.files.others other ne) ∙ e))
     ];
     gone = λ other file of e. gathered_same p heard c.present t.present other file (λ o i _. present_kept o i) (h.gone other file of (sym (copies.gone other) ∙ e));
-    told = λ o i.
+    noted = λ o i.
         let w = present_before o i in
-        let m = h.told (occurrence o.id w.0) w.1 in
+        let m = h.noted (occurrence o.id w.0) w.1 in
         (m.0, m.1, m.2);
     unsealed = λ n i e. present_kept _ (h.unsealed n i e);
   }
 
 -- ---- nothing is heard yet
 
-pub kept_nothing : (p : ℕ) → KeptBy p [] (record { files = λ name. None; gone = λ name. None; present = [] })
+pub kept_nothing : (p : ℕ) → KeptBy p [] nothing_gathered
 kept_nothing p = record {
   tops = λ k. tt;
   files = λ name file of e. absurd (none_some file e);
   gone = λ name file of e. absurd (none_some file e);
-  told = λ o i. absurd i;
+  noted = λ o i. absurd i;
   unsealed = λ n i e. absurd i;
 }

@@ -17,13 +17,13 @@ use Rattle.crash_law.proofs.NumberedLaws.{in_from_Contains}
 use Rattle.record_format.proofs.SplitLaws.{one_split}
 use Rattle.gc_event.specs.Notes.{IsOneOf, Identity, Note, Own, id_of, chunk_of, number_of}
 use Rattle.gc_law.specs.Events.{NotedEvent, RecordEvent, SealEvent, notes, seal_of, sealed_image, NotFalling, IsClosed, SealsLast, IsSealedFile, IsTelling}
-use Rattle.gc_law.specs.Tells.{or_file}
+use Rattle.dir_files.specs.Ports.{either_file}
 use Rattle.gc_law.proofs.EventLaws.{one_of_append, one_of_left, notes-append, seal_of-append, in_seal}
 
 none_some : {A : Type 0} (a : A) → None ≡ Some a → ⊥
 none_some a e = cc
 
-or_none : (x y : Option FileState) → y ≡ None → or_file x y ≡ x
+or_none : (x y : Option FileState) → y ≡ None → either_file x y ≡ x
 or_none None y e = e
 or_none (Some g) y e = refl
 
@@ -158,7 +158,7 @@ last_seal (SealEvent other f n ∷ es) name file size h e = (
   last_seal es name file size h.1 (rest (is_name name other) (seal_of es name) e),
 )
   where
-    both_none : (x y : Option FileState) → x ≡ None → y ≡ None → or_file x y ≡ None
+    both_none : (x y : Option FileState) → x ≡ None → y ≡ None → either_file x y ≡ None
     both_none None y u v = v
     both_none (Some g) y u v = absurd (none_some g (sym u))
 
@@ -204,13 +204,13 @@ module _ (p : ℕ) (es : List NotedEvent) (h : IsTelling p es) (name : ChunkName
     content = λ x y c i j f. s.content x y c i (noted_stay (Own y c) j) f;
   }
 
-  seal_at : (other : ChunkName) → seal_of sealed_more_events other ≡ or_file (seal_of es other) (cond (is_name other name) (Some file) None)
+  seal_at : (other : ChunkName) → seal_of sealed_more_events other ≡ either_file (seal_of es other) (cond (is_name other name) (Some file) None)
   seal_at other = seal_of-append es (SealEvent name file (length file.bytes) ∷ []) other
 
   one_some : (x y : FileState) → Some x ≡ Some y → x ≡ y
   one_some x y e = cc
 
-  seal_cases_by : (other : ChunkName) (f : FileState) (s : Option FileState) (b : Bool) → seal_of es other ≡ s → is_name other name ≡ b → or_file s (cond b (Some file) None) ≡ Some f
+  seal_cases_by : (other : ChunkName) (f : FileState) (s : Option FileState) (b : Bool) → seal_of es other ≡ s → is_name other name ≡ b → either_file s (cond b (Some file) None) ≡ Some f
       → (seal_of es other ≡ Some f) ⊎ ((other ≡ name) × (f ≡ file))
   seal_cases_by other f (Some g) b e u h = inl (e ∙ h)
   seal_cases_by other f None true e u h = inr (is_name-true other name u, sym (one_some file f h))

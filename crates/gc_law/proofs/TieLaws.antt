@@ -1,5 +1,6 @@
 -- A collector's steps keep what ties its table to its files.
-use Rattle.std.specs.Prelude.{◌≡◌, ◌≢◌, ◌⊎◌, ℕ, ◌==◌, ◌&&◌, ◌||◌, ◌≤◌, nat_lt, not, Bool, true, false, cond, if◌then◌else◌, List, [], ◌∷◌, ◌++◌, map, filter, Option, Some, None, IsSome, refl}
+use Rattle.std.specs.Prelude.{◌≡◌, ◌≢◌, ◌⊎◌, ℕ, ◌==◌, ◌&&◌, ◌||◌, ◌≤◌, nat_lt, not, Bool, true, false, cond, if◌then◌else◌, List, [], ◌∷◌, ◌++◌, map, filter, Option, Some, None, is_some, IsSome, refl}
+use Rattle.std.specs.List.{list_any}
 use Rattle.std.proofs.Common.{sym, ◌∙◌, ap, subst, inl, inr, arith, true≢false}
 use Rattle.std.proofs.lemmas.Bool.{ltb-true, eqb-true, eq-eqb, and_parts, and_from}
 use Rattle.std.proofs.lemmas.List.{map-append}
@@ -7,24 +8,28 @@ use Rattle.hr_base.specs.declared.name.ChunkName.{ChunkName}
 use Rattle.hr_base.specs.declared.name.Class.{Class}
 use Rattle.hr_base.specs.declared.name.Class.TheVariants.{Value as Values, Tomb as Tombs, Clear as Clears}
 use Rattle.hr_base.proofs.NameTestLaws.{same_name_or_not}
+use Rattle.hr_base.specs.NameTests.{is_name}
 use Rattle.hr_base.specs.Entries.{Key}
-use Rattle.dir_files.specs.Files.{FileState, Files, Rises}
+use Rattle.dir_files.specs.Files.{FileState, Files, Names, Rises}
 use Rattle.record_format.specs.declared.record.Record.{Record}
 use Rattle.record_format.specs.Spelling.{seq_of, class_of_record}
 use Rattle.gc_event.specs.Notes.{IsOneOf, Identity, identity_of, concerns, Note, Own, Dead, id_of, chunk_of, is_own, number_of, stays_above, top, Occurrence, occurrence, NoSmallerValue}
 use Rattle.gc_law.specs.Events.{NotedEvent, RecordEvent, SealEvent, notes, seal_of, IsTelling}
-use Rattle.gc_law.specs.Tells.{Gathered, IsSafeAt, KeepsBy, KeptBy}
-use Rattle.gc_law.specs.Steps.{HearsNote, HearsSeal, Copies, Secures, Removes, Fixes}
-use Rattle.gc_event.specs.Books.{Entry, Book, with_place, heard_in, last_in, copy_of, copied_in, is_waiting, has_copy, settled, moved_in, entry_of}
+use Rattle.gc_law.specs.CollectorFacts.{Gathered, IsSafeAt, KeepsBy, KeptBy, nothing_gathered}
+use Rattle.gc_law.specs.Steps.{HearsNote, HearsSeal, Begins, Copy, Copies, Secures, Removes, among, outside, Fixes}
+use Rattle.gc_event.specs.Books.{Entry, Book, new_book, with_place, heard_in, is_at, last_in, copy_of, copied_in, is_waiting, has_copy, settled, moved_in, entry_of, forgotten_in}
 use Rattle.gc_event.specs.Live.{is_live, is_needed}
-use Rattle.gc_law.specs.Ties.{HasPlaceIn, Ties, AreSecured}
+use Rattle.gc_law.specs.Ties.{HasPlaceIn, IsOfEvent, Ties, table_outside, forgotten_each, AreSecured}
 use Rattle.gc_event.proofs.NoteLaws.{top_is, top-push_cases, top-push, push}
-use Rattle.gc_law.proofs.EventLaws.{one_of_left, one_of_right, notes-append}
-use Rattle.gc_law.proofs.StepLaws.{keeps_more, keeps_placed, safe_same, unsealed, seal_same, none_smaller, notes_same, safe_now, seal_other, notes_now, sealed, risen_safe_by, safe_here, none_on}
+use Rattle.gc_law.proofs.EventLaws.{in_filter, from_filter, in_map, from_map, one_of_append, one_of_left, one_of_right, notes-append}
+use Rattle.gc_law.proofs.StepLaws.{was_present, keeps_more, keeps_placed, safe_same, unsealed, seal_same, none_smaller, notes_same, safe_now, seal_other, notes_now, sealed, risen_safe_by, safe_here, none_on}
 use Rattle.gc_law.proofs.BookLaws.{not_needed, any_here}
 
 none_some : {A : Type 0} (a : A) → None ≡ Some a → ⊥
 none_some a e = cc
+
+one_some : {A : Type 0} (a b : A) → Some a ≡ Some b → a ≡ b
+one_some a b e = cc
 
 both : {A : Type 0} (b : Bool) → b ≡ true → b ≡ false → A
 both b t f = absurd (true≢false (sym t ∙ f))
@@ -47,10 +52,6 @@ map_unplaced n (e ∷ es) =
     ap (λ (o : Occurrence). o ∷ map (λ e. occurrence e.id e.chunk) (map (λ e. if is_own n && (e.id.seq == number_of n) then with_place false e else e) es)) (unplaced_same (is_own n && (e.id.seq == number_of n)) e)
     ∙ ap (λ (os : List Occurrence). occurrence e.id e.chunk ∷ os) (map_unplaced n es)
 
-in_map : {A B : Type 0} (f : A → B) (xs : List A) (x : A) → IsOneOf x xs → IsOneOf (f x) (map f xs)
-in_map f [] x h = absurd h
-in_map f (y ∷ xs) x h = elim h [ inl e ↦ inl (ap f e) | inr more ↦ inr (in_map f xs x more) ]
-
 -- what is told, as an entry
 entry_id : (n : Note) → (entry_of n).id ≡ id_of n
 entry_id (Own content chunk) = refl
@@ -67,6 +68,37 @@ entry_place (Dead id chunk) = refl
 entry_occurrence : (n : Note) → occurrence (entry_of n).id (entry_of n).chunk ≡ occurrence (id_of n) (chunk_of n)
 entry_occurrence (Own content chunk) = refl
 entry_occurrence (Dead id chunk) = refl
+
+told_content : (n : Note) (r : Record) → (entry_of n).content ≡ Some r → (chunk : ChunkName) × (n ≡ Own r chunk)
+told_content (Own content chunk) r e = (chunk, ap (λ (x : Record). Own x chunk) (one_some content r e))
+told_content (Dead id chunk) r e = absurd (none_some r e)
+
+told_filled : (n : Note) → (entry_of n).place ≡ true → IsSome (entry_of n).content
+told_filled (Own content chunk) e = refl
+told_filled (Dead id chunk) e = absurd (true≢false (sym e))
+
+-- what stays of an entry that may be a place no more
+unplaced_id : (x : Bool) (e : Entry) → (cond x (with_place false e) e).id ≡ e.id
+unplaced_id true e = refl
+unplaced_id false e = refl
+
+unplaced_content : (x : Bool) (e : Entry) → (cond x (with_place false e) e).content ≡ e.content
+unplaced_content true e = refl
+unplaced_content false e = refl
+
+placed_before : (x : Bool) (e : Entry) → (cond x (with_place false e) e).place ≡ true → e.place ≡ true
+placed_before true e h = absurd (true≢false (sym h))
+placed_before false e h = h
+
+event_later : (heard more : List NotedEvent) (old new : Entry) (r : Record) → new.id ≡ old.id → IsOfEvent heard old r → IsOfEvent (heard ++ more) new r
+event_later heard more old new r same o = record {
+  chunk = o.chunk;
+  own = subst (λ (ns : List Note). IsOneOf (Own r o.chunk) ns) (sym (notes-append heard more)) (one_of_left (notes heard) (notes more) (Own r o.chunk) o.own);
+  is = same ∙ o.is;
+}
+
+event_same : (heard : List NotedEvent) (old new : Entry) (r : Record) → new.id ≡ old.id → IsOfEvent heard old r → IsOfEvent heard new r
+event_same heard old new r same o = record { chunk = o.chunk; own = o.own; is = same ∙ o.is }
 
 module _ (p : ℕ) (heard unheard : List NotedEvent) (c t : Gathered) (b : Book) (n : Note) (telling : IsTelling p (heard ++ RecordEvent n ∷ unheard)) (h : KeptBy p heard c) (hears : HearsNote c t n) (ties : Ties p heard c b) where
   -- an entry stays the place where the event is dead or of another number
@@ -147,7 +179,37 @@ module _ (p : ℕ) (heard unheard : List NotedEvent) (c t : Gathered) (b : Book)
         ∙ ap (λ (o : Occurrence). map (λ e. occurrence e.id e.chunk) (map (λ e. if is_own n && (e.id.seq == number_of n) then with_place false e else e) b.present) ++ o ∷ []) (sym (entry_occurrence n))
         ∙ sym (map-append (λ e. occurrence e.id e.chunk) (map (λ e. if is_own n && (e.id.seq == number_of n) then with_place false e else e) b.present) (entry_of n ∷ []));
     places = λ k r chunk e. places_now k r chunk (ap (λ (ns : List Note). top ns k) (sym (notes_same p heard unheard c t n telling h hears)) ∙ e) (top-push_cases (notes heard) k n);
+    contents = contents_now;
+    filled = λ e i x. elim (entry_cases e i) [
+      | inl old ↦
+          let test = is_own n && (old.0.id.seq == number_of n) in
+          subst IsSome (sym (ap (λ (y : Entry). y.content) old.2 ∙ unplaced_content test old.0)) (ties.filled old.0 old.1 (placed_before test old.0 (ap (λ (y : Entry). y.place) (sym old.2) ∙ x)))
+      | inr new ↦ subst IsSome (ap (λ (y : Entry). y.content) (sym new)) (told_filled n (ap (λ (y : Entry). y.place) (sym new) ∙ x))
+    ];
   } where
+    entry_cases : (e : Entry) → IsOneOf e (heard_in b n).present
+        → ((x : Entry) × IsOneOf x b.present × (e ≡ (if is_own n && (x.id.seq == number_of n) then with_place false x else x))) ⊎ (e ≡ entry_of n)
+    entry_cases e i =
+        elim (one_of_append (map (λ e. if is_own n && (e.id.seq == number_of n) then with_place false e else e) b.present) (entry_of n ∷ []) e i) [
+          | inl before ↦ inl (from_map (λ e. if is_own n && (e.id.seq == number_of n) then with_place false e else e) b.present e before)
+          | inr now ↦ elim now [ inl same ↦ inr same | inr more ↦ absurd more ]
+        ]
+
+    contents_now : (e : Entry) (r : Record) → IsOneOf e (heard_in b n).present → e.content ≡ Some r → IsOfEvent (heard ++ RecordEvent n ∷ []) e r
+    contents_now e r i x = elim (entry_cases e i) [
+      | inl old ↦
+          let test = is_own n && (old.0.id.seq == number_of n) in
+          event_later heard (RecordEvent n ∷ []) old.0 e r (ap (λ (y : Entry). y.id) old.2 ∙ unplaced_id test old.0)
+          (ties.contents old.0 r old.1 (sym (unplaced_content test old.0) ∙ (ap (λ (y : Entry). y.content) (sym old.2) ∙ x)))
+      | inr new ↦
+          let own = told_content n r (ap (λ (y : Entry). y.content) (sym new) ∙ x) in
+          record {
+            chunk = own.0;
+            own = subst (λ (ns : List Note). IsOneOf (Own r own.0) ns) (sym (notes_same p heard unheard c t n telling h hears)) (one_of_right (notes heard) (n ∷ []) (Own r own.0) (inl (sym own.1)));
+            is = ap (λ (y : Entry). y.id) new ∙ entry_id n ∙ ap id_of own.1;
+          }
+    ]
+
     some_note : (x y : Note) → Some x ≡ Some y → x ≡ y
     some_note x y e = cc
 
@@ -174,6 +236,8 @@ module _ (p : ℕ) (heard unheard : List NotedEvent) (c t : Gathered) (b : Book)
         let was : top (notes heard) k ≡ Some (Own r chunk) = ap (λ (ns : List Note). top ns k) (sym (notes_now p heard unheard c t name file size telling h hears)) ∙ e in
         keeps_more (class_of_record r) _ _ _ _ (place_now r chunk (top_is (notes heard) k (Own r chunk) was).member)
         (λ none. subst (λ (os : List Occurrence). NoSmallerValue os k (seq_of r)) (sym hears.present) none) (ties.places k r chunk was);
+    contents = λ e r i x. event_later heard (SealEvent name file size ∷ []) e e r refl (ties.contents e r i x);
+    filled = ties.filled;
   } where
     place_now : (r : Record) (chunk : ChunkName) → IsOneOf (Own r chunk) (notes heard) → HasPlaceIn p heard c.files b.present r chunk → HasPlaceIn p (heard ++ SealEvent name file size ∷ []) t.files b.present r chunk
     place_now r chunk i place = record {
@@ -213,6 +277,22 @@ in_settled all (x ∷ es) e h = elim h [
       let w = in_settled all es e more in
       (w.0, inr w.1)
 ]
+
+from_settled : (all es : List Entry) (e : Entry) → IsOneOf e (settled all es) → (x : Entry) × (rest : List Entry) × IsOneOf x es × (e ≡ settle_one all rest x)
+from_settled all [] e h = absurd h
+from_settled all (x ∷ es) e h = elim h [
+  | inl same ↦ (x, es, inl refl, same)
+  | inr more ↦
+      let w = from_settled all es e more in
+      (w.0, w.1, inr w.2, w.3)
+]
+
+-- what is a place then was one before, or is a copy of a record
+filled_by : (all rest : List Entry) (x : Entry) → (settle_one all rest x).place ≡ true → (x.place ≡ true → IsSome x.content) → IsSome x.content
+filled_by all rest x place f = by_test (is_waiting x) refl place where
+  by_test : (y : Bool) → is_waiting x ≡ y → (if y then not (has_copy rest x.id.seq) else x.place && not (has_copy all x.id.seq)) ≡ true → IsSome x.content
+  by_test true e h = (and_parts x.waiting (is_some x.content) e).1
+  by_test false e h = f (and_parts x.place (not (has_copy all x.id.seq)) h).0
 
 -- the copy of a record that was entered last
 record LastCopy (all es : List Entry) (seq : ℕ) : Type 0 where
@@ -263,19 +343,56 @@ stays_place all rest e place own none =
     ap (λ (x : Bool). cond x (not (has_copy rest e.id.seq)) (e.place && not (has_copy all e.id.seq))) own
     ∙ ap (λ (x : Bool). x && not (has_copy all e.id.seq)) place ∙ ap (λ (x : Bool). true && not x) none
 
-in_filter : {A : Type 0} (test : A → Bool) (xs : List A) (x : A) → IsOneOf x xs → test x ≡ true → IsOneOf x (filter test xs)
-in_filter test [] x h t = absurd h
-in_filter test (y ∷ xs) x h t = elim h [
-  | inl e ↦ first (test y) (ap test (sym e) ∙ t) e
-  | inr more ↦ later (test y) (in_filter test xs x more t)
-] where
-  first : (b : Bool) → b ≡ true → x ≡ y → IsOneOf x (cond b (y ∷ filter test xs) (filter test xs))
-  first true u e = inl e
-  first false u e = absurd (true≢false (sym u))
+-- of the entries of a record in a chunk, the last is one
+last_member : (es : List Entry) (seq : ℕ) (chunk : ChunkName) (e : Entry) → last_in es seq chunk ≡ Some e → IsOneOf e es
+last_member [] seq chunk e h = absurd (none_some e h)
+last_member (x ∷ xs) seq chunk e h = by_tests (list_any (is_at seq chunk) xs) (is_at seq chunk x) (last_member xs seq chunk e) h where
+  by_tests : (y z : Bool) → (last_in xs seq chunk ≡ Some e → IsOneOf e xs) → cond y (last_in xs seq chunk) (cond z (Some x) None) ≡ Some e → IsOneOf e (x ∷ xs)
+  by_tests true z later k = inr (later k)
+  by_tests false true later k = inl (sym (one_some x e k))
+  by_tests false false later k = absurd (none_some e k)
 
-  later : (b : Bool) → IsOneOf x (filter test xs) → IsOneOf x (cond b (y ∷ filter test xs) (filter test xs))
-  later true i = inr i
-  later false i = i
+outside_map : (removed : Names) (es : List Entry) → outside removed (map (λ e. occurrence e.id e.chunk) es) ≡ map (λ e. occurrence e.id e.chunk) (filter (λ e. not (removed e.chunk)) es)
+outside_map removed [] = refl
+outside_map removed (e ∷ es) = by_test (not (removed e.chunk)) (outside_map removed es) where
+  by_test : (y : Bool) → outside removed (map (λ e. occurrence e.id e.chunk) es) ≡ map (λ e. occurrence e.id e.chunk) (filter (λ e. not (removed e.chunk)) es) → cond y (occurrence e.id e.chunk ∷ outside removed (map (λ e. occurrence e.id e.chunk) es)) (outside removed (map (λ e. occurrence e.id e.chunk) es))
+      ≡ map (λ e. occurrence e.id e.chunk) (cond y (e ∷ filter (λ e. not (removed e.chunk)) es) (filter (λ e. not (removed e.chunk)) es))
+  by_test true later = ap (λ (os : List Occurrence). occurrence e.id e.chunk ∷ os) later
+  by_test false later = later
+
+-- ---- a new table
+
+pub ties_new : (p : ℕ) → Ties p [] nothing_gathered new_book
+ties_new p = record {
+  told = refl;
+  present = refl;
+  places = λ k r chunk e. absurd (none_some (Own r chunk) e);
+  contents = λ e r i x. absurd i;
+  filled = λ e i x. absurd i;
+}
+
+-- ---- chunks are forgotten one by one
+
+filter_all : (es : List Entry) → filter (λ (e : Entry). not false) es ≡ es
+filter_all [] = refl
+filter_all (e ∷ es) = ap (λ (xs : List Entry). e ∷ xs) (filter_all es)
+
+filter_twice : (f g : Entry → Bool) (es : List Entry) → filter (λ e. not (g e)) (filter (λ e. not (f e)) es) ≡ filter (λ e. not (f e || g e)) es
+filter_twice f g [] = refl
+filter_twice f g (e ∷ es) = by_tests (f e) (g e) refl (filter_twice f g es) where
+  by_tests : (x y : Bool) → g e ≡ y → filter (λ e. not (g e)) (filter (λ e. not (f e)) es) ≡ filter (λ e. not (f e || g e)) es
+      → filter (λ e. not (g e)) (cond (not x) (e ∷ filter (λ e. not (f e)) es) (filter (λ e. not (f e)) es)) ≡ cond (not (x || y)) (e ∷ filter (λ e. not (f e || g e)) es) (filter (λ e. not (f e || g e)) es)
+  by_tests true y k later = later
+  by_tests false true k later = ap (λ (z : Bool). cond (not z) (e ∷ filter (λ e. not (g e)) (filter (λ e. not (f e)) es)) (filter (λ e. not (g e)) (filter (λ e. not (f e)) es))) k ∙ later
+  by_tests false false k later =
+      ap (λ (z : Bool). cond (not z) (e ∷ filter (λ e. not (g e)) (filter (λ e. not (f e)) es)) (filter (λ e. not (g e)) (filter (λ e. not (f e)) es))) k
+      ∙ ap (λ (xs : List Entry). e ∷ xs) later
+
+pub each_forgotten : (b : Book) (names : List ChunkName) → forgotten_each b names ≡ table_outside (among names) b
+each_forgotten b [] = ap (λ (es : List Entry). record { told = b.told; present = es }) (sym (filter_all b.present))
+each_forgotten b (name ∷ names) =
+    each_forgotten (forgotten_in b name) names
+    ∙ ap (λ (es : List Entry). record { told = b.told; present = es }) (filter_twice (λ (e : Entry). is_name e.chunk name) (λ (e : Entry). among names e.chunk) b.present)
 
 -- ---- steps that hear nothing
 
@@ -292,34 +409,84 @@ module _ (p : ℕ) (heard : List NotedEvent) (c t : Gathered) (b : Book) (h : Ke
   }
 
   -- a copy is entered, and a piece of it appended
-  pub ties_copied : (name : ChunkName) (r : Record) (piece missing : List ℕ) (at : name.partition.0 ≡ p) (copies : Copies p heard c t name r piece missing) (e : Entry)
-      → last_in b.present (seq_of r) copies.from ≡ Some e → e.id ≡ identity_of r → Ties p heard t (copied_in b (seq_of r) copies.from name)
-  ties_copied name r piece missing at copies e last is = record {
+  pub ties_copied : (q : Copy) (at : q.target.partition.0 ≡ p) (copies : Copies p heard c t q) (e : Entry)
+      → last_in b.present (seq_of q.content) q.source ≡ Some e → e.id ≡ identity_of q.content → Ties p heard t (copied_in b (seq_of q.content) q.source q.target)
+  ties_copied q at copies e last is = record {
     told = ties.told;
     present =
         copies.present
-        ∙ ap (λ (os : List Occurrence). os ++ occurrence (identity_of r) name ∷ []) ties.present
-        ∙ ap (λ (id : Identity). map (λ e. occurrence e.id e.chunk) b.present ++ occurrence id name ∷ []) (sym is)
-        ∙ sym (map-append (λ e. occurrence e.id e.chunk) b.present (record { id = e.id; content = e.content; chunk = name; waiting = true; place = false } ∷ []))
-        ∙ ap (λ (x : Option Entry). map (λ e. occurrence e.id e.chunk) (b.present ++ copy_of x name)) (sym last);
+        ∙ ap (λ (os : List Occurrence). os ++ occurrence (identity_of q.content) q.target ∷ []) ties.present
+        ∙ ap (λ (id : Identity). map (λ e. occurrence e.id e.chunk) b.present ++ occurrence id q.target ∷ []) (sym is)
+        ∙ sym (map-append (λ e. occurrence e.id e.chunk) b.present (record { id = e.id; content = e.content; chunk = q.target; waiting = true; place = false } ∷ []))
+        ∙ ap (λ (x : Option Entry). map (λ e. occurrence e.id e.chunk) (b.present ++ copy_of x q.target)) (sym last);
     places = λ k s chunk top_e. keeps_more (class_of_record s) _ _ _ _
-        (λ place. place_over t.files (copied_in b (seq_of r) copies.from name).present s chunk place
-        (one_of_left b.present (copy_of (last_in b.present (seq_of r) copies.from) name) place.entry place.member) (safe_moved s place.entry.chunk))
-        (none_on p heard c t h name r piece missing at copies k (seq_of s)) (ties.places k s chunk top_e);
+        (λ place. place_over t.files (copied_in b (seq_of q.content) q.source q.target).present s chunk place
+        (one_of_left b.present (copy_of (last_in b.present (seq_of q.content) q.source) q.target) place.entry place.member) (safe_moved s place.entry.chunk))
+        (none_on p heard c t h q at copies k (seq_of s)) (ties.places k s chunk top_e);
+    contents = λ x s i has. elim (entry_cases x i) [
+      | inl old ↦ ties.contents x s old has
+      | inr new ↦ event_same heard e x s (ap (λ (y : Entry). y.id) new) (ties.contents e s (last_member b.present (seq_of q.content) q.source e last) (ap (λ (y : Entry). y.content) (sym new) ∙ has))
+    ];
+    filled = λ x i place. elim (entry_cases x i) [ inl old ↦ ties.filled x old place | inr new ↦ absurd (true≢false (sym place ∙ ap (λ (y : Entry). y.place) new)) ];
   } where
+    entry_cases : (x : Entry) → IsOneOf x (copied_in b (seq_of q.content) q.source q.target).present
+        → IsOneOf x b.present ⊎ (x ≡ record { id = e.id; content = e.content; chunk = q.target; waiting = true; place = false })
+    entry_cases x i =
+        elim (one_of_append b.present (copy_of (last_in b.present (seq_of q.content) q.source) q.target) x i) [
+          | inl before ↦ inl before
+          | inr now ↦ elim (subst (λ (o : Option Entry). IsOneOf x (copy_of o q.target)) last now) [ inl same ↦ inr same | inr more ↦ absurd more ]
+        ]
+
     safe_moved : (s : Record) (other : ChunkName) → IsSafeAt c.files other s → IsSafeAt t.files other s
-    safe_moved s other x = elim (same_name_or_not other name) [
-      | inl same ↦ subst (λ (n : ChunkName). IsSafeAt t.files n s) (sym same) (safe_here p heard c t h name r piece missing at copies s (subst (λ (n : ChunkName). IsSafeAt c.files n s) same x))
+    safe_moved s other x = elim (same_name_or_not other q.target) [
+      | inl same ↦ subst (λ (n : ChunkName). IsSafeAt t.files n s) (sym same) (safe_here p heard c t h q at copies s (subst (λ (n : ChunkName). IsSafeAt c.files n s) same x))
       | inr ne ↦ safe_same c.files t.files other s (copies.files.others other ne) x
     ]
+
+  -- a copy file is created
+  pub ties_begun : (name : ChunkName) → Begins c t name → Ties p heard t b
+  ties_begun name m = record {
+    told = ties.told;
+    present = m.present ∙ ties.present;
+    places = λ k r chunk e. keeps_more (class_of_record r) _ _ _ _
+        (λ place. place_over t.files b.present r chunk place place.member
+        (λ s. safe_same c.files t.files place.entry.chunk r (m.files.others place.entry.chunk (λ same. none_some s.file (sym m.none ∙ (ap c.files (sym same) ∙ s.there)))) s))
+        (λ none. subst (λ (os : List Occurrence). NoSmallerValue os k (seq_of r)) (sym m.present) none) (ties.places k r chunk e);
+    contents = ties.contents;
+    filled = ties.filled;
+  }
+
+  risen_more : ((name : ChunkName) → name.partition.0 ≡ p → Rises (c.files name) (t.files name)) → (name : ChunkName) (r : Record) → name.partition.0 ≡ p → IsSafeAt c.files name r → IsSafeAt t.files name r
+  risen_more rises name r at x = risen_safe_by p heard c t h name r x (t.files name) refl (subst (λ (y : Option FileState). Rises y (t.files name)) x.there (rises name at))
+
+  -- a crash keeps more of some files
+  pub ties_risen : Secures p c t → Ties p heard t b
+  ties_risen s = record {
+    told = ties.told;
+    present = s.present ∙ ties.present;
+    places = λ k r chunk e. keeps_more (class_of_record r) _ _ _ _ (place_risen r chunk)
+        (λ none. subst (λ (os : List Occurrence). NoSmallerValue os k (seq_of r)) (sym s.present) none) (ties.places k r chunk e);
+    contents = ties.contents;
+    filled = ties.filled;
+  } where
+    place_risen : (r : Record) (chunk : ChunkName) → HasPlaceIn p heard c.files b.present r chunk → HasPlaceIn p heard t.files b.present r chunk
+    place_risen r chunk place = record {
+      entry = place.entry;
+      member = place.member;
+      is = place.is;
+      place = place.place;
+      kept = elim place.kept [ inl own ↦ inl own | inr safe ↦ inr (safe.0, risen_more s.rises place.entry.chunk r safe.0 safe.1) ];
+    }
 
   -- a file is removed in whose chunk nothing is live
   pub ties_removed : (name : ChunkName) → Removes c t name → ((e : Entry) → IsOneOf e b.present → e.chunk ≡ name → is_live b e ≡ false) → Ties p heard t b
   ties_removed name m dead = record {
     told = ties.told;
-    present = m.present ∙ ties.present;
+    present = m.stays ∙ ties.present;
     places = λ k r chunk e. by_class (class_of_record r) _ _ _ _ (moved k r chunk e)
-        (λ none. subst (λ (os : List Occurrence). NoSmallerValue os k (seq_of r)) (sym m.present) none) (ties.places k r chunk e);
+        (λ none. subst (λ (os : List Occurrence). NoSmallerValue os k (seq_of r)) (sym m.stays) none) (ties.places k r chunk e);
+    contents = ties.contents;
+    filled = ties.filled;
   } where
     right_false : (x y : Bool) → x ≡ true → (x && y) ≡ false → y ≡ false
     right_false true y u f = f
@@ -334,7 +501,7 @@ module _ (p : ℕ) (heard : List NotedEvent) (c t : Gathered) (b : Book) (h : Ke
           not_needed p heard c b ties k r chunk (top_is (notes heard) k (Own r chunk) e)
           (subst (λ (id : Identity). is_needed id.class b id ≡ false) place.is
           (right_false place.entry.place (is_needed place.entry.id.class b place.entry.id) place.place (dead place.entry place.member same))) in
-          inr (w.0, subst (λ (os : List Occurrence). NoSmallerValue os k (seq_of r)) (sym m.present) w.1)
+          inr (w.0, subst (λ (os : List Occurrence). NoSmallerValue os k (seq_of r)) (sym m.stays) w.1)
     ]
 
     by_class : (class : Class) (kept bare kept' bare' : Type 0) → (kept → kept' ⊎ ((class ≢ Values) × bare')) → (bare → bare') → KeepsBy class kept bare → KeepsBy class kept' bare'
@@ -358,6 +525,12 @@ module _ (p : ℕ) (heard : List NotedEvent) (c t : Gathered) (b : Book) (h : Ke
     places = λ k r chunk e. keeps_more (class_of_record r) _ _ _ _
         (moved r chunk (top_is (notes heard) k (Own r chunk) e).member)
         (λ none. subst (λ (os : List Occurrence). NoSmallerValue os k (seq_of r)) (sym s.present) none) (ties.places k r chunk e);
+    contents = λ e r i x.
+        let w = from_settled b.present b.present e i in
+        event_same heard w.0 e r (ap (λ (y : Entry). y.id) w.3) (ties.contents w.0 r w.2 (ap (λ (y : Entry). y.content) (sym w.3) ∙ x));
+    filled = λ e i x.
+        let w = from_settled b.present b.present e i in
+        subst IsSome (ap (λ (y : Entry). y.content) (sym w.3)) (filled_by b.present w.1 w.0 (ap (λ (y : Entry). y.place) (sym w.3) ∙ x) (ties.filled w.0 w.2));
   } where
     heard_in_all : (m : Note) → IsOneOf m (notes heard) → IsOneOf m (notes (heard ++ unheard))
     heard_in_all m j = subst (λ (ns : List Note). IsOneOf m ns) (sym (notes-append heard unheard)) (one_of_left (notes heard) (notes unheard) m j)
@@ -365,7 +538,7 @@ module _ (p : ℕ) (heard : List NotedEvent) (c t : Gathered) (b : Book) (h : Ke
     -- an entry's identity is that of the record with its number
     same_id : (e : Entry) (r : Record) (chunk : ChunkName) → IsOneOf e b.present → IsOneOf (Own r chunk) (notes heard) → e.id.seq ≡ seq_of r → e.id ≡ identity_of r
     same_id e r chunk i j same =
-        let n = h.told (occurrence e.id e.chunk) (subst (λ (os : List Occurrence). IsOneOf (occurrence e.id e.chunk) os) (sym ties.present) (in_map (λ x. occurrence x.id x.chunk) b.present e i)) in
+        let n = h.noted (occurrence e.id e.chunk) (subst (λ (os : List Occurrence). IsOneOf (occurrence e.id e.chunk) os) (sym ties.present) (in_map (λ x. occurrence x.id x.chunk) b.present e i)) in
         sym n.2 ∙ telling.one n.0 (Own r chunk) (heard_in_all n.0 n.1) (heard_in_all (Own r chunk) j) (ap (λ (id : Identity). id.seq) n.2 ∙ same)
 
     safe_more : (name : ChunkName) (r : Record) → name.partition.0 ≡ p → IsSafeAt c.files name r → IsSafeAt t.files name r
@@ -393,18 +566,16 @@ module _ (p : ℕ) (heard : List NotedEvent) (c t : Gathered) (b : Book) (h : Ke
 
   -- ---- removals are made good
 
-  pub ties_fixed : (removed : ChunkName → Bool) → Fixes p heard c t removed → t.present ≡ map (λ e. occurrence e.id e.chunk) (filter (λ e. not (removed e.chunk)) b.present)
-      → Ties p heard t (record { told = b.told; present = filter (λ e. not (removed e.chunk)) b.present })
-  ties_fixed removed f same = record {
+  pub ties_fixed : (removed : Names) → Fixes p heard c t removed → Ties p heard t (table_outside removed b)
+  ties_fixed removed f = record {
     told = ties.told;
-    present = same;
+    present = f.forgotten ∙ ap (outside removed) ties.present ∙ outside_map removed b.present;
     places = λ k r chunk e. keeps_more (class_of_record r) _ _ _ _
         (λ place. fixed r chunk (top_is (notes heard) k (Own r chunk) e).member place (removed place.entry.chunk) refl)
-        (λ none o i. none o (f.present o i).0) (ties.places k r chunk e);
+        (λ none o i. none o (was_present c t removed f.forgotten o i)) (ties.places k r chunk e);
+    contents = λ e r i x. ties.contents e r (from_filter (λ (y : Entry). not (removed y.chunk)) b.present e i).0 x;
+    filled = λ e i x. ties.filled e (from_filter (λ (y : Entry). not (removed y.chunk)) b.present e i).0 x;
   } where
-    safe_more : (name : ChunkName) (r : Record) → name.partition.0 ≡ p → IsSafeAt c.files name r → IsSafeAt t.files name r
-    safe_more name r at x = risen_safe_by p heard c t h name r x (t.files name) refl (subst (λ (y : Option FileState). Rises y (t.files name)) x.there (f.files name at))
-
     not_some : (y : Option FileState) → y ≡ None → IsSome y → ⊥
     not_some None u v = absurd (true≢false (sym v))
     not_some (Some g) u v = none_some g (sym u)
@@ -423,5 +594,5 @@ module _ (p : ℕ) (heard : List NotedEvent) (c t : Gathered) (b : Book) (h : Ke
       member = in_filter (λ e. not (removed e.chunk)) b.present place.entry place.member (ap not x);
       is = place.is;
       place = place.place;
-      kept = elim place.kept [ inl own ↦ inl own | inr safe ↦ inr (safe.0, safe_more place.entry.chunk r safe.0 safe.1) ];
+      kept = elim place.kept [ inl own ↦ inl own | inr safe ↦ inr (safe.0, risen_more f.files place.entry.chunk r safe.0 safe.1) ];
     }

@@ -27,9 +27,11 @@ use Rattle.crash_law.proofs.NumberedLaws.{Contains-from_in, in_from_Contains, ri
 use Rattle.crash_law.proofs.PlacedLaws.{select, select_part, select_among, in_select, in_records, in_front, in_append, in_left, in_right, in_chunk_partition}
 use Rattle.gc_event.specs.Notes.{IsOneOf, Identity, identity_of, concerns, Note, Own, Dead, id_of, chunk_of, number_of, is_own, top, IsTop, Occurrence, occurrence, NoSmallerValue}
 use Rattle.gc_law.specs.Events.{NotedEvent, notes, seal_of, placed_of, NotFalling}
-use Rattle.gc_law.specs.Tells.{IsContentOf, Tells, Gathered, HasPlace, KeepsBy, KeepsTop, KeptBy, all_files, AreApart}
+use Rattle.gc_law.specs.WriterFacts.{IsStateBy, Tells}
+use Rattle.gc_law.specs.CollectorFacts.{Gathered, HasPlace, KeepsBy, KeepsTop, KeptBy}
+use Rattle.gc_law.specs.Both.{files_of_both, AreApart}
 use Rattle.gc_event.proofs.NoteLaws.{top_is, top_none, some_top}
-use Rattle.gc_law.proofs.EventLaws.{touches_is, one_of_left, one_of_right, falling_across, notes-append, closed_behind, placed_at, told_noted, one_told}
+use Rattle.gc_law.proofs.EventLaws.{in_map, touches_is, one_of_left, one_of_right, falling_across, notes-append, closed_behind, placed_at, told_noted, one_told}
 use Rattle.gc_law.proofs.NameLaws.{LeftAt, IsKnown, left_at, heard_noted, noted_in}
 
 -- ---- the deciding record of a list
@@ -117,10 +119,6 @@ chunks_of_notes ns = map chunk_of ns
 abbrev chunks_present : List Occurrence → List ChunkName
 chunks_present os = map (λ o. o.chunk) os
 
-in_map : {A B : Type 0} (f : A → B) (xs : List A) (x : A) → IsOneOf x xs → IsOneOf (f x) (map f xs)
-in_map f [] x h = absurd h
-in_map f (y ∷ xs) x h = elim h [ inl e ↦ inl (ap f e) | inr more ↦ inr (in_map f xs x more) ]
-
 -- ---- classes
 
 no_value : (r : Record) → (class_of_record r ≡ Values → ⊥) → state_of (command_of r) ≡ None
@@ -183,7 +181,7 @@ all_kept low (x ∷ xs) (y ∷ ys) h part all =
     missing i = omega (arith, rising_above (seq_of y + 1) ys y h.1 i)
 
 module _ (w : Written) (heard unheard : List NotedEvent) (a : Account) (c : Gathered) (told : Tells w (heard ++ unheard) a) (kept : KeptBy w.partition heard c)
-    (apart : AreApart w.partition w.files (seal_of unheard) c.files) (image : Image) (is : IsImageOfPart w.partition (all_files w.files (seal_of unheard) c.files) c.gone image) where
+    (apart : AreApart w unheard c) (image : Image) (is : IsImageOfPart w.partition (files_of_both w unheard c) c.gone image) where
   -- ---- the names
 
   StateAt : ChunkName → ℕ → List Record → Type 0
@@ -425,7 +423,7 @@ module _ (w : Written) (heard unheard : List NotedEvent) (a : Account) (c : Gath
       untouched s f true u left = both (is_old k s) (and_from (touches (command_of s) k) (nat_lt (seq_of s) told.low) u (lt-ltb (seq_of s) told.low f.1)) left
       untouched s f false u left = u
 
-  old_by : (k : Key) (n : Option Note) (s : State) → top (notes (heard ++ unheard)) k ≡ n → IsContentOf n s → RestartsTo Old k s
+  old_by : (k : Key) (n : Option Note) (s : State) → top (notes (heard ++ unheard)) k ≡ n → IsStateBy n s → RestartsTo Old k s
   old_by k None s e content = inr (λ r old. untouched r (old_known r old), content) where
     untouched : (r : Record) → IsKnownHere r → touches (command_of r) k ≡ false
     untouched r known =

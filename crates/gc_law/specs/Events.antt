@@ -15,9 +15,11 @@ use Rattle.crash_law.specs.Restarts.{Fact, Agree}
 use Rattle.crash_law.specs.Placed.{Placed}
 use Rattle.gc_event.specs.Notes.{IsOneOf, Identity, identity_of, Note, Own, Dead, id_of, chunk_of, number_of}
 
+-- An event as it was noted.
 pub data NotedEvent : Type 0 where
+  -- a record stands in a chunk
   RecordEvent : (note : Note) → NotedEvent
-  -- the chunk takes no record any more; its file goes over to who hears this
+  -- the chunk takes no record any more, and its file, of this size, goes over to who hears this
   SealEvent : (name : ChunkName) (file : FileState) (size : ℕ) → NotedEvent
 
 -- the record events, in order
@@ -26,13 +28,13 @@ notes [] = []
 notes (RecordEvent note ∷ es) = note ∷ notes es
 notes (SealEvent name file size ∷ es) = notes es
 
--- the files in the Seals, each as it was when it was noted
+-- the file in the Seal of a chunk, as it was when it was noted
 abbrev pub seal_of : List NotedEvent → Files
 seal_of [] name = None
 seal_of (RecordEvent note ∷ es) name = seal_of es name
 seal_of (SealEvent own file size ∷ es) name = if is_name name own then Some file else seal_of es name
 
--- their bytes
+-- the bytes of the files in Seals
 abbrev pub sealed_image : List NotedEvent → Image
 sealed_image es name = option_map (λ file. file.bytes) (seal_of es name)
 
@@ -49,26 +51,27 @@ abbrev pub NotFalling : ℕ → List Note → Type 0
 NotFalling low [] = ⊤
 NotFalling low (n ∷ ns) = (low ≤ number_of n) × NotFalling (number_of n) ns
 
--- no event is of the chunk
+-- none of these events is of the chunk
 pub record IsClosed (name : ChunkName) (es : List NotedEvent) : Type 0 where
   pub none_noted : (n : Note) → IsOneOf n (notes es) → chunk_of n ≢ name
   pub none_sealed : seal_of es name ≡ None
 
--- behind a Seal no event is of its chunk
+-- behind a Seal no event is of its chunk, another Seal neither
 abbrev pub SealsLast : List NotedEvent → Type 0
 SealsLast [] = ⊤
 SealsLast (RecordEvent note ∷ es) = SealsLast es
 SealsLast (SealEvent name file size ∷ es) = IsClosed name es × SealsLast es
 
--- the record was noted, with this chunk
+-- a record of this identity was noted, with this chunk
 pub record IsNotedAt (es : List NotedEvent) (name : ChunkName) (id : Identity) : Type 0 where
   pub note : Note
   pub member : IsOneOf note (notes es)
   pub chunk : chunk_of note ≡ name
   pub is : id_of note ≡ id
 
--- The file in a Seal is durable and has a torn rest. Its whole records are those of the events of its chunk, and each that
--- has the number of an event of its own kind is that event's record.
+-- The file in a Seal of the partition is durable and has a torn rest. Its whole records are those of the events of its
+-- chunk, but for contents that a dead event does not tell; and one that has the number of an event of its own kind, of
+-- any chunk, is that event's record.
 pub record IsSealedFile (p : ℕ) (es : List NotedEvent) (name : ChunkName) (file : FileState) : Type 0 where
   pub partition : name.partition.0 ≡ p
   pub durable : IsDurable file
@@ -78,20 +81,27 @@ pub record IsSealedFile (p : ℕ) (es : List NotedEvent) (name : ChunkName) (fil
   pub split : Splits (class_of_kind name.kind) file.bytes records rest
   pub torn : IsTorn (class_of_kind name.kind) rest
   pub noted : (r : Record) → IsIn r records → IsNotedAt es name (identity_of r)
-  pub all : (n : Note) → IsOneOf n (notes es) → chunk_of n ≡ name → (r : Record) × IsIn r records × (identity_of r ≡ id_of n)
-  pub content : (r s : Record) (chunk : ChunkName) → IsIn r records → IsOneOf (Own s chunk) (notes es) → seq_of s ≡ seq_of r → r ≡ s
+  pub all : (n : Note) → IsOneOf n (notes es) → chunk_of n ≡ name
+      → (r : Record) × IsIn r records × (identity_of r ≡ id_of n)
+  pub content : (r s : Record) (chunk : ChunkName) → IsIn r records → IsOneOf (Own s chunk) (notes es)
+      → seq_of s ≡ seq_of r → r ≡ s
 
--- What a partition noted since its last restart, whatever its files are by now.
+-- The events are such as a partition notes after a restart, whatever its files are by now. Numbers do not fall, and events
+-- with one number speak of one record. Each chunk has at most one Seal, behind all its events, with the size of its file.
+-- Whole records with one number are equal, in the files of any two Seals.
 pub record IsTelling (p : ℕ) (es : List NotedEvent) : Type 0 where
   pub rising : NotFalling 0 (notes es)
-  pub one : (m n : Note) → IsOneOf m (notes es) → IsOneOf n (notes es) → number_of m ≡ number_of n → id_of m ≡ id_of n
-  pub content : (r s : Record) (c d : ChunkName) → IsOneOf (Own r c) (notes es) → IsOneOf (Own s d) (notes es) → seq_of r ≡ seq_of s → r ≡ s
+  pub one : (m n : Note) → IsOneOf m (notes es) → IsOneOf n (notes es)
+      → number_of m ≡ number_of n → id_of m ≡ id_of n
+  pub content : (r s : Record) (c d : ChunkName) → IsOneOf (Own r c) (notes es) → IsOneOf (Own s d) (notes es)
+      → seq_of r ≡ seq_of s → r ≡ s
   pub last : SealsLast es
-  pub sizes : (name : ChunkName) (file : FileState) (size : ℕ) → IsOneOf (SealEvent name file size) es → size ≡ length file.bytes
+  pub sizes : (name : ChunkName) (file : FileState) (size : ℕ) → IsOneOf (SealEvent name file size) es
+      → size ≡ length file.bytes
   pub seals : (name : ChunkName) (file : FileState) → seal_of es name ≡ Some file → IsSealedFile p es name file
   pub agree : Agree (Fact (sealed_image es) p)
 
--- ---- what is known of a record by these lists
+-- ---- what is known of a record by these events
 
 -- the record is that of an event of its own kind, or stands whole in the file of a Seal
 abbrev pub IsTold : ℕ → List NotedEvent → Record → Type 0

@@ -1,6 +1,7 @@
 pub mod Events
-pub mod Tells
+pub mod WriterFacts
+pub mod CollectorFacts
+pub mod Both
 pub mod Restarting
 pub mod Steps
 pub mod Ties
-pub mod Named
