@@ -1,20 +1,24 @@
 -- Why no file of the collector's has a name of the writer's or of a Seal that was not heard.
-use Rattle.std.specs.Prelude.{◌≡◌, ℕ, List, ◌++◌, Option, Some, None, refl}
-use Rattle.std.proofs.Common.{◌∙◌, ap, arith}
+use Rattle.std.specs.Prelude.{◌≡◌, ℕ, ◌≤◌, List, ◌++◌, Option, Some, None, refl}
+use Rattle.std.proofs.Common.{sym, ◌∙◌, ap, subst, arith}
 use Rattle.hr_base.specs.declared.name.ChunkName.{ChunkName}
 use Rattle.dir_files.specs.Files.{FileState}
 use Rattle.record_format.specs.declared.record.Record.{Record}
 use Rattle.crash_law.specs.Accounts.{Account}
 use Rattle.crash_law.specs.Writers.{Written}
-use Rattle.gc_law.specs.Events.{NotedEvent, seal_of}
+use Rattle.gc_law.specs.Events.{NotedEvent, seal_of, IsClosed}
 use Rattle.dir_files.specs.Ports.{either_file}
-use Rattle.gc_law.specs.Both.{AreApart, KeepNames}
+use Rattle.gc_law.specs.Both.{AreApart, CopiesBelow, IsCopyKind, KeepNames}
 use Rattle.gc_law.specs.WriterFacts.{Tells, IsWritersAt}
 use Rattle.gc_law.specs.CollectorFacts.{Gathered}
 use Rattle.gc_law.proofs.EventLaws.{seal_of-append, closed_behind}
 
 none_some : {A : Type 0} (a : A) → None ≡ Some a → ⊥
 none_some a e = cc
+
+none_by : (x : Option FileState) → ((f : FileState) → x ≡ Some f → ⊥) → x ≡ None
+none_by None h = refl
+none_by (Some f) h = absurd (h f refl)
 
 module _ (w : Written) (heard unheard : List NotedEvent) (a : Account) (c : Gathered) (first : ℕ) (told : Tells w (heard ++ unheard) a) (h : KeepNames w c heard unheard first) where
   -- a sealed chunk has no file of the writer's
@@ -28,10 +32,6 @@ module _ (w : Written) (heard unheard : List NotedEvent) (a : Account) (c : Gath
     (closed_behind heard unheard name f told.telling.last e).none_sealed,
   )
 
-  none_by : (x : Option FileState) → ((f : FileState) → x ≡ Some f → ⊥) → x ≡ None
-  none_by None h = refl
-  none_by (Some f) h = absurd (h f refl)
-
   by_seal : (name : ChunkName) (file : FileState) → name.partition.0 ≡ w.partition → c.files name ≡ Some file → (s : Option FileState) → seal_of heard name ≡ s → (w.files name ≡ None) × (seal_of unheard name ≡ None)
   by_seal name file of there (Some f) e = sealed_heard name f of e
   by_seal name file of there None e =
@@ -40,3 +40,10 @@ module _ (w : Written) (heard unheard : List NotedEvent) (a : Account) (c : Gath
 
   pub are_apart : AreApart w unheard c
   are_apart name file of there = by_seal name file of there (seal_of heard name) refl
+
+-- no event is of a copy chunk that is new
+pub new_closed : (first : ℕ) (es : List NotedEvent) (name : ChunkName) → CopiesBelow first es → IsCopyKind name.kind → first ≤ name.number.0 → IsClosed name es
+new_closed first es name below copy from = record {
+  none_noted = λ n i same. absurd (omega (arith, below.noted n i (subst (λ (x : ChunkName). IsCopyKind x.kind) (sym same) copy), ap (λ (x : ChunkName). x.number.0) same, from));
+  none_sealed = none_by (seal_of es name) (λ f e. absurd (omega (arith, below.sealed name f e copy, from)));
+}

@@ -21,7 +21,7 @@ use Rattle.gc_law.specs.CollectorFacts.{Gathered, IsSafeAt}
 use Rattle.gc_law.proofs.EventLaws.{from_map, one_of_append, one_of_left, notes-append}
 use Rattle.gc_event.specs.Notes.{IsOneOf, Identity, identity_of, Note, Own, Dead, is_own, number_of}
 use Rattle.gc_event.specs.Books.{Entry, Book, with_place, entry_of, heard_in, last_in, copy_of, copied_in, is_waiting, settled, moved_in}
-use Rattle.gc_law.specs.Steps.{HearsNote, HearsSeal, Begins, Copy, Copies, Secures}
+use Rattle.gc_law.specs.Steps.{HearsNote, HearsSeal, BeginsCopyFile, RecordCopy, CopiesRecord, SecuresFiles}
 use Rattle.gc_law.specs.Ties.{IsCopied, AreCopied, AreSecured}
 
 none_some : {A : Type 0} (a : A) → None ≡ Some a → ⊥
@@ -55,7 +55,7 @@ safe_by p heard files changed e copied (Some g) there rises durable =
     }
 
 -- after both syncs each of them is kept
-pub copies_secured : (p : ℕ) (heard unheard : List NotedEvent) (c t : Gathered) (present : List Entry) → IsTelling p (heard ++ unheard) → AreCopied p heard c.files present → Secures p c t
+pub copies_secured : (p : ℕ) (heard unheard : List NotedEvent) (c t : Gathered) (present : List Entry) → IsTelling p (heard ++ unheard) → AreCopied p heard c.files present → SecuresFiles p c t
     → ((e : Entry) (file : FileState) → IsOneOf e present → is_waiting e ≡ true → t.files e.chunk ≡ Some file → IsDurable file) → AreSecured p heard t.files present
 copies_secured p heard unheard c t present telling copied s durable e r chunk i waiting own is =
     let x = copied e i waiting in
@@ -86,7 +86,7 @@ each_by P (x ∷ xs) ys h = (h.0, each_by P xs ys h.1)
 each_front : (P : Record → Type 0) (xs ys : List Record) → All P (xs ++ ys) → All P xs
 each_front P xs ys h = All-from_recursion P xs (each_by P xs ys (recursion_from_All P (xs ++ ys) h))
 
-module _ (p : ℕ) (heard : List NotedEvent) (c t : Gathered) (q : Copy) (copies : Copies p heard c t q) (all : q.missing ≡ []) where
+module _ (p : ℕ) (heard : List NotedEvent) (c t : Gathered) (q : RecordCopy) (copies : CopiesRecord p heard c t q) (all : q.missing ≡ []) where
   bytes_now : (copies.file.bytes ++ q.piece) ≡ spellings (copies.records ++ q.content ∷ [])
   bytes_now =
       ap (λ (b : List ℕ). b ++ q.piece) copies.whole
@@ -197,14 +197,14 @@ copies_sealed p heard c t b name file size copied hears e i waiting =
     (hears.files.others e.chunk (λ same. none_some x.file (sym hears.none ∙ (ap c.files (sym same) ∙ x.there)))) x
 
 -- a copy file is created
-pub copies_begun : (p : ℕ) (heard : List NotedEvent) (c t : Gathered) (b : Book) (name : ChunkName) → AreCopied p heard c.files b.present → Begins c t name → AreCopied p heard t.files b.present
+pub copies_begun : (p : ℕ) (heard : List NotedEvent) (c t : Gathered) (b : Book) (name : ChunkName) → AreCopied p heard c.files b.present → BeginsCopyFile c t name → AreCopied p heard t.files b.present
 copies_begun p heard c t b name copied m e i waiting =
     let x = copied e i waiting in
     copied_with p heard c.files t.files e x x.file
     (m.files.others e.chunk (λ same. none_some x.file (sym m.none ∙ (ap c.files (sym same) ∙ x.there))) ∙ x.there) refl
 
 -- a crash keeps more of some files
-pub copies_risen : (p : ℕ) (heard : List NotedEvent) (c t : Gathered) (b : Book) → AreCopied p heard c.files b.present → Secures p c t → AreCopied p heard t.files b.present
+pub copies_risen : (p : ℕ) (heard : List NotedEvent) (c t : Gathered) (b : Book) → AreCopied p heard c.files b.present → SecuresFiles p c t → AreCopied p heard t.files b.present
 copies_risen p heard c t b copied s e i waiting =
     let x = copied e i waiting in
     risen x (t.files e.chunk) refl (subst (λ (o : Option FileState). Rises o (t.files e.chunk)) x.there (s.rises e.chunk x.partition))

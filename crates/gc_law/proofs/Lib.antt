@@ -10,3 +10,4 @@ pub mod TieLaws
 pub mod ReadLaws
 pub mod ApartLaws
 pub mod CopyLaws
+pub mod SmallStoreLaws

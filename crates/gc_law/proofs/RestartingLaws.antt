@@ -26,7 +26,7 @@ use Rattle.crash_law.proofs.NumberedLaws.{in_from_Contains, Contains-from_in}
 use Rattle.gc_event.specs.Notes.{IsOneOf, Identity, identity_of, concerns, Note, Own, Dead, chunk_of, number_of, top, IsTop}
 use Rattle.gc_law.specs.Events.{NotedEvent, notes, seal_of, sealed_image, placed_of, IsSealedFile, IsTelling}
 use Rattle.gc_law.specs.WriterFacts.{IsStateBy, IsWritersAt, Tells, HasDoneNothing}
-use Rattle.gc_law.specs.Restarting.{IsRead, IsFoundNote, NotesFound, Opens}
+use Rattle.gc_law.specs.Restarting.{IsFoundFile, IsFoundNote, NotesFound, Opens}
 use Rattle.gc_event.proofs.NoteLaws.{top_is, top_none}
 use Rattle.gc_law.proofs.EventLaws.{touches_is}
 
@@ -70,13 +70,13 @@ module _ (p : ℕ) (es : List NotedEvent) (b : WriterStart) (base : Base p b.fou
             base.sound.agree r y.content (fact_of name f.0 of f.1 read r i) y.fact (sym same ∙ sym (ap (λ (id : Identity). id.seq) y.is)) ∙ y.own s chunk refl;
       })
     where
-      fact_of : (n : ChunkName) (bytes : List ℕ) → n.partition.0 ≡ p → b.found n ≡ Some bytes → (read : IsRead n bytes) → (r : Record) → IsIn r read.records → Fact b.found p r
+      fact_of : (n : ChunkName) (bytes : List ℕ) → n.partition.0 ≡ p → b.found n ≡ Some bytes → (read : IsFoundFile n bytes) → (r : Record) → IsIn r read.records → Fact b.found p r
       fact_of n bytes of there read r i = record { name = n; bytes = bytes; records = read.records; rest = read.rest; partition = of; there = there; whole = read.split; has = Contains-from_in r read.records i }
 
       one_some : (x y : List ℕ) → Some x ≡ Some y → x ≡ y
       one_some x y u = cc
 
-      in_file : (n : ChunkName) (bytes : List ℕ) → b.found n ≡ Some bytes → (read : IsRead n bytes) → (r : Record) (f : Fact b.found p r) → f.name ≡ n → IsIn r read.records
+      in_file : (n : ChunkName) (bytes : List ℕ) → b.found n ≡ Some bytes → (read : IsFoundFile n bytes) → (r : Record) (f : Fact b.found p r) → f.name ≡ n → IsIn r read.records
       in_file n bytes there read r f same =
           let is : f.bytes ≡ bytes = one_some f.bytes bytes (sym f.there ∙ (ap b.found same ∙ there)) in
           subst (λ (rs : List Record). IsIn r rs)

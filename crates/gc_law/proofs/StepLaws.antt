@@ -29,7 +29,7 @@ use Rattle.gc_event.specs.Notes.{IsOneOf, Identity, identity_of, Note, Own, Dead
 use Rattle.gc_law.specs.Events.{NotedEvent, RecordEvent, SealEvent, notes, seal_of, NotFalling, SealsLast, IsSealedFile, IsTelling, IsTold}
 use Rattle.dir_files.specs.Ports.{either_file}
 use Rattle.gc_law.specs.CollectorFacts.{Gathered, HoldsSplit, IsSafeAt, IsSafe, HasPlace, KeepsBy, KeepsTop, IsGatheredFile, KeptBy, nothing_gathered}
-use Rattle.gc_law.specs.Steps.{HearsNote, HearsSeal, Begins, Copy, Copies, Secures, IsSpare, Removes, outside, Fixes}
+use Rattle.gc_law.specs.Steps.{HearsNote, HearsSeal, BeginsCopyFile, RecordCopy, CopiesRecord, SecuresFiles, IsSpare, RemovesSource, outside, FixesRemovals}
 use Rattle.gc_event.proofs.NoteLaws.{top_is, top-push_cases}
 use Rattle.gc_law.proofs.EventLaws.{in_filter, from_filter, one_of_append, one_of_left, one_of_right, notes-append, seal_of-append, closed_behind, falling_across}
 
@@ -398,7 +398,7 @@ module _ (p : ℕ) (heard : List NotedEvent) (c t : Gathered) (h : KeptBy p hear
   risen_file name None file of e there more = absurd (none_some file (sym more))
   risen_file name (Some g) file of e there more = gathered_bytes p heard c.present name g file more.bytes (h.files name g of e)
 
-  pub kept_secured : Secures p c t → KeptBy p heard t
+  pub kept_secured : SecuresFiles p c t → KeptBy p heard t
   kept_secured s = record {
     tops = tops_same p heard c t s.present (risen_safe s.rises) h;
     files = λ name file of e.
@@ -422,7 +422,7 @@ module _ (p : ℕ) (heard : List NotedEvent) (c t : Gathered) (h : KeptBy p hear
     told = λ r i. absurd i;
   }
 
-  pub kept_begun : (name : ChunkName) → Begins c t name → KeptBy p heard t
+  pub kept_begun : (name : ChunkName) → BeginsCopyFile c t name → KeptBy p heard t
   kept_begun name b = record {
     tops = tops_same p heard c t b.present
         (λ r s. (s.0, s.1, safe_same c.files t.files s.0 r (b.files.others s.0 (λ e. none_some s.2.file (sym b.none ∙ (ap c.files (sym e) ∙ s.2.there)))) s.2)) h;
@@ -439,7 +439,7 @@ module _ (p : ℕ) (heard : List NotedEvent) (c t : Gathered) (h : KeptBy p hear
 
   -- ---- a file is removed
 
-  pub kept_removed : (name : ChunkName) → name.partition.0 ≡ p → Removes c t name → IsSpare p heard c name → KeptBy p heard t
+  pub kept_removed : (name : ChunkName) → name.partition.0 ≡ p → RemovesSource c t name → IsSpare p heard c name → KeptBy p heard t
   kept_removed name at m spare = record {
     tops = tops_on p heard c t (λ k r chunk e. kept_by k r chunk e) h.tops;
     files = λ other file of e.
@@ -502,7 +502,7 @@ module _ (p : ℕ) (heard : List NotedEvent) (c t : Gathered) (h : KeptBy p hear
 
   -- ---- removals are made good
 
-  pub kept_fixed : (removed : ChunkName → Bool) → Fixes p heard c t removed → KeptBy p heard t
+  pub kept_fixed : (removed : ChunkName → Bool) → FixesRemovals p heard c t removed → KeptBy p heard t
   kept_fixed removed f = record {
     tops = tops_on p heard c t (λ k r chunk e. keeps_more (class_of_record r) _ _ _ _ (place_by p heard c t r chunk (risen_safe f.files r)) (λ none o i. none o (was_present c t removed f.forgotten o i))) h.tops;
     files = λ name file of e.
@@ -532,7 +532,7 @@ each_left P (x ∷ xs) ys h = (h.0, each_left P xs ys h.1)
 
 -- ---- a copy is appended
 
-module _ (p : ℕ) (heard : List NotedEvent) (c t : Gathered) (h : KeptBy p heard c) (q : Copy) (at : q.target.partition.0 ≡ p) (copies : Copies p heard c t q) where
+module _ (p : ℕ) (heard : List NotedEvent) (c t : Gathered) (h : KeptBy p heard c) (q : RecordCopy) (at : q.target.partition.0 ≡ p) (copies : CopiesRecord p heard c t q) where
   after_bytes : spellings (copies.records ++ q.content ∷ []) ≡ (copies.file.bytes ++ q.piece) ++ q.missing
   after_bytes =
       flat_map-append spelling copies.records (q.content ∷ [])

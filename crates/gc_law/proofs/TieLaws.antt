@@ -16,7 +16,7 @@ use Rattle.record_format.specs.Spelling.{seq_of, class_of_record}
 use Rattle.gc_event.specs.Notes.{IsOneOf, Identity, identity_of, concerns, Note, Own, Dead, id_of, chunk_of, is_own, number_of, stays_above, top, Occurrence, occurrence, NoSmallerValue}
 use Rattle.gc_law.specs.Events.{NotedEvent, RecordEvent, SealEvent, notes, seal_of, IsTelling}
 use Rattle.gc_law.specs.CollectorFacts.{Gathered, IsSafeAt, KeepsBy, KeptBy, nothing_gathered}
-use Rattle.gc_law.specs.Steps.{HearsNote, HearsSeal, Begins, Copy, Copies, Secures, Removes, among, outside, Fixes}
+use Rattle.gc_law.specs.Steps.{HearsNote, HearsSeal, BeginsCopyFile, RecordCopy, CopiesRecord, SecuresFiles, RemovesSource, among, outside, FixesRemovals}
 use Rattle.gc_event.specs.Books.{Entry, Book, new_book, with_place, heard_in, is_at, last_in, copy_of, copied_in, is_waiting, has_copy, settled, moved_in, entry_of, forgotten_in}
 use Rattle.gc_event.specs.Live.{is_live, is_needed}
 use Rattle.gc_law.specs.Ties.{HasPlaceIn, IsOfEvent, Ties, table_outside, forgotten_each, AreSecured}
@@ -108,8 +108,8 @@ module _ (p : ℕ) (heard unheard : List NotedEvent) (c t : Gathered) (b : Book)
       (subst (λ (x : Entry). IsOneOf x (map (λ e. if is_own n && (e.id.seq == number_of n) then with_place false e else e) b.present)) (ap (λ (x : Bool). cond x (with_place false e) e) f)
       (in_map (λ e. if is_own n && (e.id.seq == number_of n) then with_place false e else e) b.present e i))
 
-  place_stays : (r : Record) (chunk : ChunkName) (place : HasPlaceIn p heard c.files b.present r chunk) → (is_own n && (place.entry.id.seq == number_of n)) ≡ false
-      → HasPlaceIn p (heard ++ RecordEvent n ∷ []) t.files (heard_in b n).present r chunk
+  place_stays : (r : Record) (chunk : ChunkName) (place : HasPlaceIn p heard c.files b.present (record { content = r; chunk = chunk })) → (is_own n && (place.entry.id.seq == number_of n)) ≡ false
+      → HasPlaceIn p (heard ++ RecordEvent n ∷ []) t.files (heard_in b n).present (record { content = r; chunk = chunk })
   place_stays r chunk place f = record {
     entry = place.entry;
     member = stays place.entry place.member f;
@@ -121,7 +121,7 @@ module _ (p : ℕ) (heard unheard : List NotedEvent) (c t : Gathered) (b : Book)
     ];
   }
 
-  place_new : (r : Record) (chunk : ChunkName) → n ≡ Own r chunk → HasPlaceIn p (heard ++ RecordEvent n ∷ []) t.files (heard_in b n).present r chunk
+  place_new : (r : Record) (chunk : ChunkName) → n ≡ Own r chunk → HasPlaceIn p (heard ++ RecordEvent n ∷ []) t.files (heard_in b n).present (record { content = r; chunk = chunk })
   place_new r chunk e = record {
     entry = entry_of n;
     member = one_of_right (map (λ e. if is_own n && (e.id.seq == number_of n) then with_place false e else e) b.present) _ _ (inl refl);
@@ -164,7 +164,7 @@ module _ (p : ℕ) (heard unheard : List NotedEvent) (c t : Gathered) (b : Book)
       in_first m j = subst (λ (ns : List Note). IsOneOf m ns) (sym (notes-append heard (RecordEvent n ∷ unheard))) (one_of_left (notes heard) (n ∷ notes unheard) m j)
 
   place_by : (k : Key) (r : Record) (chunk : ChunkName) → top (notes heard) k ≡ Some (Own r chunk) → top (notes heard ++ n ∷ []) k ≡ Some (Own r chunk)
-      → (place : HasPlaceIn p heard c.files b.present r chunk) (x : Bool) → (is_own n && (place.entry.id.seq == number_of n)) ≡ x → HasPlaceIn p (heard ++ RecordEvent n ∷ []) t.files (heard_in b n).present r chunk
+      → (place : HasPlaceIn p heard c.files b.present (record { content = r; chunk = chunk })) (x : Bool) → (is_own n && (place.entry.id.seq == number_of n)) ≡ x → HasPlaceIn p (heard ++ RecordEvent n ∷ []) t.files (heard_in b n).present (record { content = r; chunk = chunk })
   place_by k r chunk old now place false f = place_stays r chunk place f
   place_by k r chunk old now place true f =
       let parts = and_parts (is_own n) (place.entry.id.seq == number_of n) f in
@@ -215,7 +215,7 @@ module _ (p : ℕ) (heard unheard : List NotedEvent) (c t : Gathered) (b : Book)
 
     places_now : (k : Key) (r : Record) (chunk : ChunkName) → top (notes heard ++ n ∷ []) k ≡ Some (Own r chunk)
         → (top (notes heard ++ n ∷ []) k ≡ top (notes heard) k) ⊎ (top (notes heard ++ n ∷ []) k ≡ Some n)
-        → KeepsBy (class_of_record r) (HasPlaceIn p (heard ++ RecordEvent n ∷ []) t.files (heard_in b n).present r chunk) (NoSmallerValue t.present k (seq_of r))
+        → KeepsBy (class_of_record r) (HasPlaceIn p (heard ++ RecordEvent n ∷ []) t.files (heard_in b n).present (record { content = r; chunk = chunk })) (NoSmallerValue t.present k (seq_of r))
     places_now k r chunk now (inl old) =
         let was : top (notes heard) k ≡ Some (Own r chunk) = sym old ∙ now in
         keeps_more (class_of_record r) _ _ _ _
@@ -239,7 +239,7 @@ module _ (p : ℕ) (heard unheard : List NotedEvent) (c t : Gathered) (b : Book)
     contents = λ e r i x. event_later heard (SealEvent name file size ∷ []) e e r refl (ties.contents e r i x);
     filled = ties.filled;
   } where
-    place_now : (r : Record) (chunk : ChunkName) → IsOneOf (Own r chunk) (notes heard) → HasPlaceIn p heard c.files b.present r chunk → HasPlaceIn p (heard ++ SealEvent name file size ∷ []) t.files b.present r chunk
+    place_now : (r : Record) (chunk : ChunkName) → IsOneOf (Own r chunk) (notes heard) → HasPlaceIn p heard c.files b.present (record { content = r; chunk = chunk }) → HasPlaceIn p (heard ++ SealEvent name file size ∷ []) t.files b.present (record { content = r; chunk = chunk })
     place_now r chunk i place = record {
       entry = place.entry;
       member = place.member;
@@ -398,8 +398,8 @@ each_forgotten b (name ∷ names) =
 
 module _ (p : ℕ) (heard : List NotedEvent) (c t : Gathered) (b : Book) (h : KeptBy p heard c) (ties : Ties p heard c b) where
   -- a place goes over to other files and another list
-  place_over : (files : Files) (others : List Entry) (r : Record) (chunk : ChunkName) (place : HasPlaceIn p heard c.files b.present r chunk) → IsOneOf place.entry others
-      → (IsSafeAt c.files place.entry.chunk r → IsSafeAt files place.entry.chunk r) → HasPlaceIn p heard files others r chunk
+  place_over : (files : Files) (others : List Entry) (r : Record) (chunk : ChunkName) (place : HasPlaceIn p heard c.files b.present (record { content = r; chunk = chunk })) → IsOneOf place.entry others
+      → (IsSafeAt c.files place.entry.chunk r → IsSafeAt files place.entry.chunk r) → HasPlaceIn p heard files others (record { content = r; chunk = chunk })
   place_over files others r chunk place i f = record {
     entry = place.entry;
     member = i;
@@ -409,7 +409,7 @@ module _ (p : ℕ) (heard : List NotedEvent) (c t : Gathered) (b : Book) (h : Ke
   }
 
   -- a copy is entered, and a piece of it appended
-  pub ties_copied : (q : Copy) (at : q.target.partition.0 ≡ p) (copies : Copies p heard c t q) (e : Entry)
+  pub ties_copied : (q : RecordCopy) (at : q.target.partition.0 ≡ p) (copies : CopiesRecord p heard c t q) (e : Entry)
       → last_in b.present (seq_of q.content) q.source ≡ Some e → e.id ≡ identity_of q.content → Ties p heard t (copied_in b (seq_of q.content) q.source q.target)
   ties_copied q at copies e last is = record {
     told = ties.told;
@@ -444,7 +444,7 @@ module _ (p : ℕ) (heard : List NotedEvent) (c t : Gathered) (b : Book) (h : Ke
     ]
 
   -- a copy file is created
-  pub ties_begun : (name : ChunkName) → Begins c t name → Ties p heard t b
+  pub ties_begun : (name : ChunkName) → BeginsCopyFile c t name → Ties p heard t b
   ties_begun name m = record {
     told = ties.told;
     present = m.present ∙ ties.present;
@@ -460,7 +460,7 @@ module _ (p : ℕ) (heard : List NotedEvent) (c t : Gathered) (b : Book) (h : Ke
   risen_more rises name r at x = risen_safe_by p heard c t h name r x (t.files name) refl (subst (λ (y : Option FileState). Rises y (t.files name)) x.there (rises name at))
 
   -- a crash keeps more of some files
-  pub ties_risen : Secures p c t → Ties p heard t b
+  pub ties_risen : SecuresFiles p c t → Ties p heard t b
   ties_risen s = record {
     told = ties.told;
     present = s.present ∙ ties.present;
@@ -469,7 +469,7 @@ module _ (p : ℕ) (heard : List NotedEvent) (c t : Gathered) (b : Book) (h : Ke
     contents = ties.contents;
     filled = ties.filled;
   } where
-    place_risen : (r : Record) (chunk : ChunkName) → HasPlaceIn p heard c.files b.present r chunk → HasPlaceIn p heard t.files b.present r chunk
+    place_risen : (r : Record) (chunk : ChunkName) → HasPlaceIn p heard c.files b.present (record { content = r; chunk = chunk }) → HasPlaceIn p heard t.files b.present (record { content = r; chunk = chunk })
     place_risen r chunk place = record {
       entry = place.entry;
       member = place.member;
@@ -479,7 +479,7 @@ module _ (p : ℕ) (heard : List NotedEvent) (c t : Gathered) (b : Book) (h : Ke
     }
 
   -- a file is removed in whose chunk nothing is live
-  pub ties_removed : (name : ChunkName) → Removes c t name → ((e : Entry) → IsOneOf e b.present → e.chunk ≡ name → is_live b e ≡ false) → Ties p heard t b
+  pub ties_removed : (name : ChunkName) → RemovesSource c t name → ((e : Entry) → IsOneOf e b.present → e.chunk ≡ name → is_live b e ≡ false) → Ties p heard t b
   ties_removed name m dead = record {
     told = ties.told;
     present = m.stays ∙ ties.present;
@@ -492,8 +492,8 @@ module _ (p : ℕ) (heard : List NotedEvent) (c t : Gathered) (b : Book) (h : Ke
     right_false true y u f = f
     right_false false y u f = both false u refl
 
-    moved : (k : Key) (r : Record) (chunk : ChunkName) → top (notes heard) k ≡ Some (Own r chunk) → (place : HasPlaceIn p heard c.files b.present r chunk)
-        → HasPlaceIn p heard t.files b.present r chunk ⊎ ((class_of_record r ≢ Values) × NoSmallerValue t.present k (seq_of r))
+    moved : (k : Key) (r : Record) (chunk : ChunkName) → top (notes heard) k ≡ Some (Own r chunk) → (place : HasPlaceIn p heard c.files b.present (record { content = r; chunk = chunk }))
+        → HasPlaceIn p heard t.files b.present (record { content = r; chunk = chunk }) ⊎ ((class_of_record r ≢ Values) × NoSmallerValue t.present k (seq_of r))
     moved k r chunk e place = elim (same_name_or_not place.entry.chunk name) [
       | inr ne ↦ inl (place_over t.files b.present r chunk place place.member (safe_same c.files t.files place.entry.chunk r (m.files.others place.entry.chunk ne)))
       | inl same ↦
@@ -518,7 +518,7 @@ module _ (p : ℕ) (heard : List NotedEvent) (c t : Gathered) (b : Book) (h : Ke
   settled_same all (e ∷ es) = ap (λ (os : List Occurrence). occurrence e.id e.chunk ∷ os) (settled_same all es)
 
   -- copies are secured, and the table moves its places
-  pub ties_secured : (unheard : List NotedEvent) → IsTelling p (heard ++ unheard) → Secures p c t → AreSecured p heard t.files b.present → Ties p heard t (moved_in b)
+  pub ties_secured : (unheard : List NotedEvent) → IsTelling p (heard ++ unheard) → SecuresFiles p c t → AreSecured p heard t.files b.present → Ties p heard t (moved_in b)
   ties_secured unheard telling s secured = record {
     told = ties.told;
     present = s.present ∙ ties.present ∙ sym (settled_same b.present b.present);
@@ -544,8 +544,8 @@ module _ (p : ℕ) (heard : List NotedEvent) (c t : Gathered) (b : Book) (h : Ke
     safe_more : (name : ChunkName) (r : Record) → name.partition.0 ≡ p → IsSafeAt c.files name r → IsSafeAt t.files name r
     safe_more name r at x = risen_safe_by p heard c t h name r x (t.files name) refl (subst (λ (y : Option FileState). Rises y (t.files name)) x.there (s.rises name at))
 
-    moved_by : (r : Record) (chunk : ChunkName) → IsOneOf (Own r chunk) (notes heard) → (place : HasPlaceIn p heard c.files b.present r chunk) (x : Bool) → has_copy b.present (seq_of r) ≡ x
-        → HasPlaceIn p heard t.files (moved_in b).present r chunk
+    moved_by : (r : Record) (chunk : ChunkName) → IsOneOf (Own r chunk) (notes heard) → (place : HasPlaceIn p heard c.files b.present (record { content = r; chunk = chunk })) (x : Bool) → has_copy b.present (seq_of r) ≡ x
+        → HasPlaceIn p heard t.files (moved_in b).present (record { content = r; chunk = chunk })
     moved_by r chunk j place true x =
         let w = last_copy b.present b.present (seq_of r) x in
         let is : w.entry.id ≡ identity_of r = same_id w.entry r chunk w.member j w.number in
@@ -561,12 +561,12 @@ module _ (p : ℕ) (heard : List NotedEvent) (c t : Gathered) (b : Book) (h : Ke
           kept = elim place.kept [ inl own ↦ inl own | inr safe ↦ inr (safe.0, safe_more place.entry.chunk r safe.0 safe.1) ];
         }
 
-    moved : (r : Record) (chunk : ChunkName) → IsOneOf (Own r chunk) (notes heard) → HasPlaceIn p heard c.files b.present r chunk → HasPlaceIn p heard t.files (moved_in b).present r chunk
+    moved : (r : Record) (chunk : ChunkName) → IsOneOf (Own r chunk) (notes heard) → HasPlaceIn p heard c.files b.present (record { content = r; chunk = chunk }) → HasPlaceIn p heard t.files (moved_in b).present (record { content = r; chunk = chunk })
     moved r chunk j place = moved_by r chunk j place (has_copy b.present (seq_of r)) refl
 
   -- ---- removals are made good
 
-  pub ties_fixed : (removed : Names) → Fixes p heard c t removed → Ties p heard t (table_outside removed b)
+  pub ties_fixed : (removed : Names) → FixesRemovals p heard c t removed → Ties p heard t (table_outside removed b)
   ties_fixed removed f = record {
     told = ties.told;
     present = f.forgotten ∙ ap (outside removed) ties.present ∙ outside_map removed b.present;
@@ -580,14 +580,14 @@ module _ (p : ℕ) (heard : List NotedEvent) (c t : Gathered) (b : Book) (h : Ke
     not_some None u v = absurd (true≢false (sym v))
     not_some (Some g) u v = none_some g (sym u)
 
-    gone_place : (r : Record) (chunk : ChunkName) → IsOneOf (Own r chunk) (notes heard) → (place : HasPlaceIn p heard c.files b.present r chunk) → removed place.entry.chunk ≡ true → ⊥
+    gone_place : (r : Record) (chunk : ChunkName) → IsOneOf (Own r chunk) (notes heard) → (place : HasPlaceIn p heard c.files b.present (record { content = r; chunk = chunk })) → removed place.entry.chunk ≡ true → ⊥
     gone_place r chunk j place x = elim place.kept [
       | inl own ↦ not_some (seal_of heard chunk) own.1 (f.closed (Own r chunk) j (ap removed (sym own.0) ∙ x))
       | inr safe ↦ none_some safe.1.file (sym (f.none place.entry.chunk x) ∙ safe.1.there)
     ]
 
-    fixed : (r : Record) (chunk : ChunkName) → IsOneOf (Own r chunk) (notes heard) → (place : HasPlaceIn p heard c.files b.present r chunk) (x : Bool) → removed place.entry.chunk ≡ x
-        → HasPlaceIn p heard t.files (filter (λ e. not (removed e.chunk)) b.present) r chunk
+    fixed : (r : Record) (chunk : ChunkName) → IsOneOf (Own r chunk) (notes heard) → (place : HasPlaceIn p heard c.files b.present (record { content = r; chunk = chunk })) (x : Bool) → removed place.entry.chunk ≡ x
+        → HasPlaceIn p heard t.files (filter (λ e. not (removed e.chunk)) b.present) (record { content = r; chunk = chunk })
     fixed r chunk j place true x = absurd (gone_place r chunk j place x)
     fixed r chunk j place false x = record {
       entry = place.entry;

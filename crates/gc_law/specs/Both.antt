@@ -6,7 +6,8 @@ use Rattle.hr_base.specs.declared.name.Kind.TheVariants.{V, T, X, W, U, Y}
 use Rattle.dir_files.specs.Files.{FileState, Files}
 use Rattle.dir_files.specs.Ports.{either_file}
 use Rattle.crash_law.specs.Writers.{Written}
-use Rattle.gc_law.specs.Events.{NotedEvent, seal_of}
+use Rattle.gc_event.specs.Notes.{IsOneOf, Note, chunk_of}
+use Rattle.gc_law.specs.Events.{NotedEvent, notes, seal_of}
 use Rattle.gc_law.specs.CollectorFacts.{Gathered}
 
 -- all of these files, as one look-up
@@ -28,9 +29,15 @@ IsCopyKind W = ⊤
 IsCopyKind U = ⊤
 IsCopyKind Y = ⊤
 
--- Each file of the collector's came in a Seal that was heard, or is a copy chunk, with a number from the collector's first
--- one on. Each copy chunk in a Seal that was not heard was found at the restart, and has a smaller number. The writer has
--- no copy chunk.
+-- all copy chunks of these events have numbers below the collector's first one
+pub record CopiesBelow (first : ℕ) (es : List NotedEvent) : Type 0 where
+  pub noted : (n : Note) → IsOneOf n (notes es) → IsCopyKind (chunk_of n).kind → (chunk_of n).number.0 < first
+  pub sealed : (name : ChunkName) (file : FileState) → seal_of es name ≡ Some file → IsCopyKind name.kind
+      → name.number.0 < first
+
+-- Each file of the collector's came in a Seal that was heard, or is a copy chunk, with a number from the
+-- collector's first one on. Each copy chunk in a Seal that was not heard was found at the restart, and has a
+-- smaller number. The writer has no copy chunk.
 pub record KeepNames (w : Written) (c : Gathered) (heard unheard : List NotedEvent) (first : ℕ) : Type 0 where
   pub created : (name : ChunkName) (file : FileState) → name.partition.0 ≡ w.partition → c.files name ≡ Some file
       → seal_of heard name ≡ None → IsCopyKind name.kind × (first ≤ name.number.0)

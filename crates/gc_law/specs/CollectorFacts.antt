@@ -14,8 +14,8 @@ use Rattle.crash_law.specs.Numbered.{IsIn}
 use Rattle.gc_event.specs.Notes.{IsOneOf, identity_of, Note, Own, Dead, id_of, chunk_of, top, Occurrence, occurrence, NoSmallerValue}
 use Rattle.gc_law.specs.Events.{NotedEvent, notes, seal_of, IsTold}
 
--- What a collector has of a partition: its files, in its hands or at its port; those that it removed, which may come back
--- until a directory sync; and the occurrences that are present.
+-- What a collector has of a partition: its files, in its hands or at its port; those that it removed, which may
+-- come back until a directory sync; and the occurrences that are present.
 pub record Gathered : Type 0 where
   pub files : Files
   pub gone : Files
@@ -47,8 +47,8 @@ pub record IsSafeAt (files : Files) (name : ChunkName) (r : Record) : Type 0 whe
 abbrev pub IsSafe : ℕ → Files → Record → Type 0
 IsSafe p files r = (name : ChunkName) × (name.partition.0 ≡ p) × IsSafeAt files name r
 
--- The record's place: the chunk that its event told, whose Seal was not heard, so that the writer's facts speak of it; or a
--- file of the collector's that a crash keeps with the record.
+-- The record's place: the chunk that its event told, whose Seal was not heard, so that the writer's facts speak
+-- of it; or a file of the collector's that a crash keeps with the record.
 abbrev pub HasPlace : ℕ → List NotedEvent → Files → Record → ChunkName → Type 0
 HasPlace p heard files r chunk = (seal_of heard chunk ≡ None) ⊎ IsSafe p files r
 
@@ -70,8 +70,8 @@ KeepsTop p heard c k (Some (Own content chunk)) =
 
 -- ---- the collector's files
 
--- A file that came in a Seal or that the collector created, removed or not. Each whole record in it is a present
--- occurrence there, and is told.
+-- A file that came in a Seal or that the collector created, removed or not. Each whole record in it is a
+-- present occurrence there, and is told.
 pub record IsGatheredFile
     (p : ℕ) (heard : List NotedEvent) (present : List Occurrence) (name : ChunkName) (file : FileState)
     : Type 0 where
@@ -83,9 +83,10 @@ pub record IsGatheredFile
   pub marked : (r : Record) → IsIn r records → IsOneOf (occurrence (identity_of r) name) present
   pub told : (r : Record) → IsIn r records → IsTold p heard r
 
--- The collector's facts. Each top has its place, or may do without. Each of its files of the partition, and each removed one
--- that may come back, has only present occurrences of told records. Each present occurrence is of a record event, and the
--- occurrence of each event whose chunk's Seal was not heard is present, that of a dead one too.
+-- The collector's facts. Each top has its place, or may do without. Each of its files of the partition, and
+-- each removed one that may come back, has only present occurrences of told records. Each present occurrence is
+-- of a record event, and the occurrence of each event whose chunk's Seal was not heard is present, that of a
+-- dead one too.
 pub record KeptBy (p : ℕ) (heard : List NotedEvent) (c : Gathered) : Type 0 where
   pub tops : (k : Key) → KeepsTop p heard c k (top (notes heard) k)
   pub files : (name : ChunkName) (file : FileState) → name.partition.0 ≡ p → c.files name ≡ Some file

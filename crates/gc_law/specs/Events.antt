@@ -69,9 +69,9 @@ pub record IsNotedAt (es : List NotedEvent) (name : ChunkName) (id : Identity) :
   pub chunk : chunk_of note ≡ name
   pub is : id_of note ≡ id
 
--- The file in a Seal of the partition is durable and has a torn rest. Its whole records are those of the events of its
--- chunk, but for contents that a dead event does not tell; and one that has the number of an event of its own kind, of
--- any chunk, is that event's record.
+-- The file in a Seal of the partition is durable and has a torn rest. Its whole records are those of the events
+-- of its chunk, but for contents that a dead event does not tell; and one that has the number of an event of
+-- its own kind, of any chunk, is that event's record.
 pub record IsSealedFile (p : ℕ) (es : List NotedEvent) (name : ChunkName) (file : FileState) : Type 0 where
   pub partition : name.partition.0 ≡ p
   pub durable : IsDurable file
@@ -86,9 +86,9 @@ pub record IsSealedFile (p : ℕ) (es : List NotedEvent) (name : ChunkName) (fil
   pub content : (r s : Record) (chunk : ChunkName) → IsIn r records → IsOneOf (Own s chunk) (notes es)
       → seq_of s ≡ seq_of r → r ≡ s
 
--- The events are such as a partition notes after a restart, whatever its files are by now. Numbers do not fall, and events
--- with one number speak of one record. Each chunk has at most one Seal, behind all its events, with the size of its file.
--- Whole records with one number are equal, in the files of any two Seals.
+-- The events are such as a partition notes after a restart, whatever its files are by now. Numbers do not fall,
+-- and events with one number speak of one record. Each chunk has at most one Seal, behind all its events, with
+-- the size of its file. Whole records with one number are equal, in the files of any two Seals.
 pub record IsTelling (p : ℕ) (es : List NotedEvent) : Type 0 where
   pub rising : NotFalling 0 (notes es)
   pub one : (m n : Note) → IsOneOf m (notes es) → IsOneOf n (notes es)

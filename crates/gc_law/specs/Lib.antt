@@ -5,3 +5,4 @@ pub mod Both
 pub mod Restarting
 pub mod Steps
 pub mod Ties
+pub mod SmallStore

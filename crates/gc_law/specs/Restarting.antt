@@ -18,7 +18,7 @@ use Rattle.gc_law.specs.WriterFacts.{IsStateBy}
 -- ---- what is noted
 
 -- the whole records of a found file, in order, and the rest
-pub record IsRead (name : ChunkName) (bytes : List ℕ) : Type 0 where
+pub record IsFoundFile (name : ChunkName) (bytes : List ℕ) : Type 0 where
   pub records : List Record
   pub rest : List ℕ
   pub split : Splits (class_of_kind name.kind) bytes records rest
@@ -31,11 +31,11 @@ pub record IsFoundNote (p : ℕ) (found : Image) (n : Note) : Type 0 where
   pub is : identity_of content ≡ id_of n
   pub own : (r : Record) (chunk : ChunkName) → n ≡ Own r chunk → content ≡ r
 
--- The restart noted each whole record that it found, with its file: the deciding record of each key by an event of its own
--- kind, each other one by that or as dead. The numbers do not fall. It noted each found file in a Seal, behind all events of
--- its chunk, and no other.
+-- The restart noted each whole record that it found, with its file: the deciding record of each key by an event
+-- of its own kind, each other one by that or as dead. The numbers do not fall. It noted each found file in a
+-- Seal, behind all events of its chunk, and no other.
 pub record NotesFound (p : ℕ) (found : Image) (es : List NotedEvent) : Type 0 where
-  pub read : (name : ChunkName) (bytes : List ℕ) → name.partition.0 ≡ p → found name ≡ Some bytes → IsRead name bytes
+  pub read : (name : ChunkName) (bytes : List ℕ) → name.partition.0 ≡ p → found name ≡ Some bytes → IsFoundFile name bytes
   pub there : (n : Note) → IsOneOf n (notes es) → IsFoundNote p found n
   pub noted : (r : Record) (f : Fact found p r) → IsNotedAt es f.name (identity_of r)
   pub deciding : (k : Key) (r : Record) → IsDeciding (Fact found p) k r
@@ -49,8 +49,9 @@ pub record NotesFound (p : ℕ) (found : Image) (es : List NotedEvent) : Type 0 
 
 -- ---- what it gives
 
--- Events that a writer may begin with: they are such as a partition notes, their tops give the maps, and all numbers are
--- below the first one. The chunk of each of them is sealed, and the found files are those in the Seals.
+-- Events that a writer may begin with: they are such as a partition notes, their tops give the maps, and all
+-- numbers are below the first one. The chunk of each of them is sealed, and the found files are those in the
+-- Seals.
 pub record Opens (p : ℕ) (es : List NotedEvent) (b : WriterStart) : Type 0 where
   pub telling : IsTelling p es
   pub content : (k : Key) → IsStateBy (top (notes es) k) (map.get b.maps k)

@@ -15,6 +15,16 @@ use Rattle.gc_event.specs.Notes.{IsOneOf, identity_of, Note, Own, id_of, chunk_o
 use Rattle.gc_law.specs.Events.{NotedEvent, notes, seal_of, IsTold}
 use Rattle.gc_law.specs.CollectorFacts.{Gathered, IsSafeAt}
 
+-- ---- what is present
+
+-- the chunks of a list
+abbrev pub among : List ChunkName → Names
+among names name = list_any (λ other. is_name name other) names
+
+-- the occurrences in other chunks than these
+abbrev pub outside : Names → List Occurrence → List Occurrence
+outside removed present = filter (λ o. not (removed o.chunk)) present
+
 -- ---- what it hears
 
 -- a record event was heard: its occurrence is present
@@ -33,24 +43,24 @@ pub record HearsSeal (c t : Gathered) (name : ChunkName) (file : FileState) : Ty
 -- ---- a cycle
 
 -- a copy file was created
-pub record Begins (c t : Gathered) (name : ChunkName) : Type 0 where
+pub record BeginsCopyFile (c t : Gathered) (name : ChunkName) : Type 0 where
   pub none : c.files name ≡ None
   pub files : ChangesAt c.files t.files name (Some new_file)
   pub gone : SameAt c.gone t.gone
   pub present : t.present ≡ c.present
 
--- A copy: a record that is present in one chunk, the file of another chunk that it goes to, the bytes of its spelling that
--- the disk took, and those that it did not take.
-pub record Copy : Type 0 where
+-- A copy: a record that is present in one chunk, the file of another chunk that it goes to, the bytes of its
+-- spelling that the disk took, and those that it did not take.
+pub record RecordCopy : Type 0 where
   pub content : Record
   pub source : ChunkName
   pub target : ChunkName
   pub piece : List ℕ
   pub missing : List ℕ
 
--- The copy, with the number and all else of its record, was entered as present, and a front of its spelling was appended to
--- the copy file, which had whole records alone.
-pub record Copies (p : ℕ) (heard : List NotedEvent) (c t : Gathered) (x : Copy) : Type 0 where
+-- The copy, with the number and all else of its record, was entered as present, and a front of its spelling was
+-- appended to the copy file, which had whole records alone.
+pub record CopiesRecord (p : ℕ) (heard : List NotedEvent) (c t : Gathered) (x : RecordCopy) : Type 0 where
   pub file : FileState
   pub records : List Record
   pub there : c.files x.target ≡ Some file
@@ -65,16 +75,16 @@ pub record Copies (p : ℕ) (heard : List NotedEvent) (c t : Gathered) (x : Copy
   pub gone : SameAt c.gone t.gone
   pub present : t.present ≡ c.present ++ occurrence (identity_of x.content) x.target ∷ []
 
--- Files were synced, or the directory was: of each file a crash keeps more, and a removed one may be gone for good. No
--- occurrence comes or goes.
-pub record Secures (p : ℕ) (c t : Gathered) : Type 0 where
+-- Files were synced, or the directory was: of each file a crash keeps more, and a removed one may be gone for
+-- good. No occurrence comes or goes.
+pub record SecuresFiles (p : ℕ) (c t : Gathered) : Type 0 where
   pub rises : (name : ChunkName) → name.partition.0 ≡ p → Rises (c.files name) (t.files name)
   pub gone : (name : ChunkName) (file : FileState) → name.partition.0 ≡ p → t.gone name ≡ Some file
       → c.gone name ≡ Some file
   pub present : t.present ≡ c.present
 
--- No top needs the file: where its record is safe in it, its event's chunk was not heard sealed, or it is safe elsewhere
--- too, or it is a tombstone or prefix tombstone that has no older value of the key to hide.
+-- No top needs the file: where its record is safe in it, its event's chunk was not heard sealed, or it is safe
+-- elsewhere too, or it is a tombstone or prefix tombstone that has no older value of the key to hide.
 abbrev pub IsSpare : ℕ → List NotedEvent → Gathered → ChunkName → Type 0
 IsSpare p heard c name =
     (k : Key) (r : Record) (chunk : ChunkName) → top (notes heard) k ≡ Some (Own r chunk) → IsSafeAt c.files name r
@@ -83,24 +93,17 @@ IsSpare p heard c name =
     ⊎ ((class_of_record r ≢ Value) × NoSmallerValue c.present k (seq_of r)))
 
 -- A file was removed, and may come back. Its occurrences stay present.
-pub record Removes (c t : Gathered) (name : ChunkName) : Type 0 where
+pub record RemovesSource (c t : Gathered) (name : ChunkName) : Type 0 where
   pub file : FileState
   pub there : c.files name ≡ Some file
   pub files : ChangesAt c.files t.files name None
   pub gone : ChangesAt c.gone t.gone name (Some file)
   pub stays : t.present ≡ c.present
 
--- the chunks of a list
-abbrev pub among : List ChunkName → Names
-among names name = list_any (λ other. is_name name other) names
-
--- the occurrences in other chunks than these
-abbrev pub outside : Names → List Occurrence → List Occurrence
-outside removed present = filter (λ o. not (removed o.chunk)) present
-
--- A directory sync was answered after removals: no removed file of the partition comes back, and the occurrences in their
--- chunks are forgotten. Such a chunk has no file here, and its Seal was heard, or no event is of it.
-pub record Fixes (p : ℕ) (heard : List NotedEvent) (c t : Gathered) (removed : Names) : Type 0 where
+-- A directory sync was answered after removals: no removed file of the partition comes back, and the
+-- occurrences in their chunks are forgotten. Such a chunk has no file here, and its Seal was heard, or no event
+-- is of it.
+pub record FixesRemovals (p : ℕ) (heard : List NotedEvent) (c t : Gathered) (removed : Names) : Type 0 where
   pub none : (name : ChunkName) → removed name ≡ true → c.files name ≡ None
   pub closed : (n : Note) → IsOneOf n (notes heard) → removed (chunk_of n) ≡ true → IsSome (seal_of heard (chunk_of n))
   pub files : (name : ChunkName) → name.partition.0 ≡ p → Rises (c.files name) (t.files name)

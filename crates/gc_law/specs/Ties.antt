@@ -8,6 +8,7 @@ use Rattle.record_format.specs.declared.record.Record.{Record}
 use Rattle.record_format.specs.Spelling.{seq_of, class_of_record, spellings}
 use Rattle.record_format.specs.Splits.{IsOfClass}
 use Rattle.crash_law.specs.Numbered.{IsIn}
+use Rattle.crash_law.specs.Placed.{Placed}
 use Rattle.gc_event.specs.Notes.{IsOneOf, identity_of, Own, top, occurrence, NoSmallerValue}
 use Rattle.gc_event.specs.Books.{Entry, Book, forgotten_in, is_waiting}
 use Rattle.gc_law.specs.Events.{NotedEvent, notes, seal_of}
@@ -15,17 +16,15 @@ use Rattle.gc_law.specs.CollectorFacts.{Gathered, IsSafeAt, KeepsBy}
 
 -- ---- the table
 
--- The table has the record's place, and a crash keeps the record there: in the chunk of its event, whose Seal was not heard,
--- or in a file of the collector's.
-pub record HasPlaceIn
-    (p : ℕ) (heard : List NotedEvent) (files : Files) (present : List Entry) (r : Record) (chunk : ChunkName)
-    : Type 0 where
+-- The table has the record's place, and a crash keeps the record there: in the chunk of its event, whose Seal
+-- was not heard, or in a file of the collector's.
+pub record HasPlaceIn (p : ℕ) (heard : List NotedEvent) (files : Files) (present : List Entry) (x : Placed) : Type 0 where
   pub entry : Entry
   pub member : IsOneOf entry present
-  pub is : entry.id ≡ identity_of r
+  pub is : entry.id ≡ identity_of x.content
   pub place : entry.place ≡ true
-  pub kept : ((entry.chunk ≡ chunk) × (seal_of heard chunk ≡ None))
-      ⊎ ((entry.chunk.partition.0 ≡ p) × IsSafeAt files entry.chunk r)
+  pub kept : ((entry.chunk ≡ x.chunk) × (seal_of heard x.chunk ≡ None))
+      ⊎ ((entry.chunk.partition.0 ≡ p) × IsSafeAt files entry.chunk x.content)
 
 -- the content of an entry is the record of an event of its own kind
 pub record IsOfEvent (heard : List NotedEvent) (e : Entry) (r : Record) : Type 0 where
@@ -33,14 +32,16 @@ pub record IsOfEvent (heard : List NotedEvent) (e : Entry) (r : Record) : Type 0
   pub own : IsOneOf (Own r chunk) (notes heard)
   pub is : e.id ≡ identity_of r
 
--- The table stands for what was heard, and for the occurrences that are present. It has the place of each top, or the top
--- is a tombstone or prefix tombstone with nothing older to hide. Contents are those of events of their own kind, and what is
--- a place has one.
+-- The table stands for what was heard, and for the occurrences that are present. It has the place of each top,
+-- or the top is a tombstone or prefix tombstone with nothing older to hide. Contents are those of events of
+-- their own kind, and what is a place has one.
 pub record Ties (p : ℕ) (heard : List NotedEvent) (c : Gathered) (b : Book) : Type 0 where
   pub told : b.told ≡ notes heard
   pub present : c.present ≡ map (λ e. occurrence e.id e.chunk) b.present
   pub places : (k : Key) (r : Record) (chunk : ChunkName) → top (notes heard) k ≡ Some (Own r chunk)
-      → KeepsBy (class_of_record r) (HasPlaceIn p heard c.files b.present r chunk) (NoSmallerValue c.present k (seq_of r))
+      → KeepsBy (class_of_record r)
+      (HasPlaceIn p heard c.files b.present (record { content = r; chunk = chunk }))
+      (NoSmallerValue c.present k (seq_of r))
   pub contents : (e : Entry) (r : Record) → IsOneOf e b.present → e.content ≡ Some r → IsOfEvent heard e r
   pub filled : (e : Entry) → IsOneOf e b.present → e.place ≡ true → IsSome e.content
 

@@ -19,17 +19,17 @@ IsStateBy None s = s ≡ None
 IsStateBy (Some (Own content chunk)) s = s ≡ state_of (command_of content)
 IsStateBy (Some (Dead id chunk)) s = ⊥
 
--- The file of one name. That of a sealed chunk went away in its Seal, and the chunk takes no record; another one has the
--- noted records of the chunk below its front, and then those since.
+-- The file of one name. That of a sealed chunk went away in its Seal, and the chunk takes no record; another
+-- one has the noted records of the chunk below its front, and then those since.
 abbrev pub IsWritersAt : Option FileState → Option FileState → List Record → List Record → Type 0
 IsWritersAt (Some sealed) file noted since = (file ≡ None) × (since ≡ [])
 IsWritersAt None file noted since = IsOwn file noted since
 
--- The writer's facts. Here its files are those that it has in hand or at its port, and not those that went away in Seals.
--- What it noted gives the durable maps. Its records since then have greater numbers, rising in the order of the tail, and
--- the account's maps are those after them, but for one that the disk refused. Its files are of its partition, and hold the
--- noted records of chunks that are not sealed, and those since; the chunk of a dead event is sealed. None of its files may
--- come back after a removal.
+-- The writer's facts. Here its files are those that it has in hand or at its port, and not those that went away
+-- in Seals. What it noted gives the durable maps. Its records since then have greater numbers, rising in the
+-- order of the tail, and the account's maps are those after them, but for one that the disk refused. Its files
+-- are of its partition, and hold the noted records of chunks that are not sealed, and those since; the chunk of
+-- a dead event is sealed. None of its files may come back after a removal.
 pub record Tells (w : Written) (es : List NotedEvent) (a : Account) : Type 0 where
   pub telling : IsTelling w.partition es
   pub durable : (k : Key) → IsStateBy (top (notes es) k) (map.get a.durable k)

@@ -6,7 +6,7 @@ ghost use Rattle.dir_files.specs.Files.{FileState, Names};
 ghost use Rattle.gc_event.specs.Notes.{Note};
 ghost use Rattle.gc_law.specs.CollectorFacts.{Gathered, KeptBy, nothing_gathered};
 ghost use Rattle.gc_law.specs.Events.{IsTelling, NotedEvent, RecordEvent, SealEvent};
-ghost use Rattle.gc_law.specs.Steps.{Begins, Copies, Copy, Fixes, HearsNote, HearsSeal, IsSpare, Removes, Secures};
+ghost use Rattle.gc_law.specs.Steps.{BeginsCopyFile, CopiesRecord, RecordCopy, FixesRemovals, HearsNote, HearsSeal, IsSpare, RemovesSource, SecuresFiles};
 
 /// A collector that heard nothing, and has nothing, has its facts.
 pub fn nothing_heard_is_kept()
@@ -24,17 +24,17 @@ pub fn hearing_keeps()
         → KeptBy p (heard ++ SealEvent name file size ∷ []) t }
 {}
 
-/// Each step of a cycle keeps a collector's facts: a copy file is created; a copy is appended, whole or torn; copies are
-/// secured; a source is removed that no top needs; and the removals are made good.
+/// Each step of a cycle keeps a collector's facts: a copy file is created; a copy is appended, whole or torn;
+/// copies are secured; a source is removed that no top needs; and the removals are made good.
 pub fn a_cycle_keeps()
     ensures begun { (p : ℕ) (heard : List NotedEvent) (c t : Gathered) (name : ChunkName)
-        → KeptBy p heard c → Begins c t name → KeptBy p heard t }
-    ensures copied { (p : ℕ) (heard : List NotedEvent) (c t : Gathered) (x : Copy)
-        → KeptBy p heard c → x.target.partition.0 ≡ p → Copies p heard c t x → KeptBy p heard t }
+        → KeptBy p heard c → BeginsCopyFile c t name → KeptBy p heard t }
+    ensures copied { (p : ℕ) (heard : List NotedEvent) (c t : Gathered) (x : RecordCopy)
+        → KeptBy p heard c → x.target.partition.0 ≡ p → CopiesRecord p heard c t x → KeptBy p heard t }
     ensures secured { (p : ℕ) (heard : List NotedEvent) (c t : Gathered)
-        → KeptBy p heard c → Secures p c t → KeptBy p heard t }
+        → KeptBy p heard c → SecuresFiles p c t → KeptBy p heard t }
     ensures removed { (p : ℕ) (heard : List NotedEvent) (c t : Gathered) (name : ChunkName)
-        → KeptBy p heard c → name.partition.0 ≡ p → Removes c t name → IsSpare p heard c name → KeptBy p heard t }
+        → KeptBy p heard c → name.partition.0 ≡ p → RemovesSource c t name → IsSpare p heard c name → KeptBy p heard t }
     ensures fixed { (p : ℕ) (heard : List NotedEvent) (c t : Gathered) (removed : Names)
-        → KeptBy p heard c → Fixes p heard c t removed → KeptBy p heard t }
+        → KeptBy p heard c → FixesRemovals p heard c t removed → KeptBy p heard t }
 {}

@@ -14,8 +14,8 @@ ghost use Rattle.gc_law.specs.Events.{IsSealedFile, IsTelling, NotedEvent, Recor
 ghost use Rattle.gc_law.specs.Restarting.{NotesFound, Opens};
 ghost use Rattle.gc_law.specs.WriterFacts.{HasDoneNothing, Tells};
 
-/// A record with a greater number, in a chunk without a Seal, may be noted; and so may the Seal of a chunk without one,
-/// whose file has just the records of its events.
+/// A record with a greater number, in a chunk without a Seal, may be noted; and so may the Seal of a chunk
+/// without one, whose file has just the records of its events.
 pub fn a_telling_grows()
     ensures noted { (p : ℕ) (es : List NotedEvent) (r : Record) (chunk : ChunkName) → IsTelling p es
         → ((m : Note) → IsOneOf m (notes es) → number_of m < seq_of r) → seal_of es chunk ≡ None
@@ -26,8 +26,8 @@ pub fn a_telling_grows()
         → IsTelling p (es ++ SealEvent name file (length file.bytes) ∷ []) }
 {}
 
-/// What a restart notes of found files is what a writer may begin with: a writer that has done nothing since has its facts
-/// over it, for a fresh account of the maps that the files restart to.
+/// What a restart notes of found files is what a writer may begin with: a writer that has done nothing since
+/// has its facts over it, for a fresh account of the maps that the files restart to.
 pub fn what_is_found_opens()
     ensures opens { (p : ℕ) (es : List NotedEvent) (b : WriterStart)
         → Base p b.found b.maps b.first → NotesFound p b.found es → Opens p es b }
