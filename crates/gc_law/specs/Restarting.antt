@@ -35,7 +35,8 @@ pub record IsFoundNote (p : ℕ) (found : Image) (n : Note) : Type 0 where
 -- of its own kind, each other one by that or as dead. The numbers do not fall. It noted each found file in a
 -- Seal, behind all events of its chunk, and no other.
 pub record NotesFound (p : ℕ) (found : Image) (es : List NotedEvent) : Type 0 where
-  pub read : (name : ChunkName) (bytes : List ℕ) → name.partition.0 ≡ p → found name ≡ Some bytes → IsFoundFile name bytes
+  pub read : (name : ChunkName) (bytes : List ℕ) → name.partition.0 ≡ p → found name ≡ Some bytes
+      → IsFoundFile name bytes
   pub there : (n : Note) → IsOneOf n (notes es) → IsFoundNote p found n
   pub noted : (r : Record) (f : Fact found p r) → IsNotedAt es f.name (identity_of r)
   pub deciding : (k : Key) (r : Record) → IsDeciding (Fact found p) k r

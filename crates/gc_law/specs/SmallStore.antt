@@ -30,7 +30,8 @@ abbrev pub open_file : FileState
 open_file = record { bytes = spellings (put_b 2 ∷ []); front = 0; named = false }
 
 abbrev pub events : List NotedEvent
-events = RecordEvent (Own (put_a 1) (chunk V 1)) ∷ SealEvent (chunk V 1) durable_file (length durable_file.bytes) ∷ []
+events =
+    RecordEvent (Own (put_a 1) (chunk V 1)) ∷ SealEvent (chunk V 1) durable_file (length durable_file.bytes) ∷ []
 
 abbrev pub record_since : Placed
 record_since = record { content = put_b 2; chunk = chunk V 2 }

@@ -105,7 +105,8 @@ pub record RemovesSource (c t : Gathered) (name : ChunkName) : Type 0 where
 -- is of it.
 pub record FixesRemovals (p : ℕ) (heard : List NotedEvent) (c t : Gathered) (removed : Names) : Type 0 where
   pub none : (name : ChunkName) → removed name ≡ true → c.files name ≡ None
-  pub closed : (n : Note) → IsOneOf n (notes heard) → removed (chunk_of n) ≡ true → IsSome (seal_of heard (chunk_of n))
+  pub closed : (n : Note) → IsOneOf n (notes heard) → removed (chunk_of n) ≡ true
+      → IsSome (seal_of heard (chunk_of n))
   pub files : (name : ChunkName) → name.partition.0 ≡ p → Rises (c.files name) (t.files name)
   pub gone : (name : ChunkName) → name.partition.0 ≡ p → t.gone name ≡ None
   pub forgotten : t.present ≡ outside removed c.present

@@ -18,7 +18,9 @@ use Rattle.gc_law.specs.CollectorFacts.{Gathered, IsSafeAt, KeepsBy}
 
 -- The table has the record's place, and a crash keeps the record there: in the chunk of its event, whose Seal
 -- was not heard, or in a file of the collector's.
-pub record HasPlaceIn (p : ℕ) (heard : List NotedEvent) (files : Files) (present : List Entry) (x : Placed) : Type 0 where
+pub record HasPlaceIn
+    (p : ℕ) (heard : List NotedEvent) (files : Files) (present : List Entry) (x : Placed)
+    : Type 0 where
   pub entry : Entry
   pub member : IsOneOf entry present
   pub is : entry.id ≡ identity_of x.content

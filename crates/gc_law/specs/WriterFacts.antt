@@ -46,7 +46,9 @@ pub record Tells (w : Written) (es : List NotedEvent) (a : Account) : Type 0 whe
   pub dead : (id : Identity) (chunk : ChunkName) → IsOneOf (Dead id chunk) (notes es) → IsSome (seal_of es chunk)
   pub partition : (name : ChunkName) (file : FileState) → w.files name ≡ Some file → name.partition.0 ≡ w.partition
   pub at : (name : ChunkName) → name.partition.0 ≡ w.partition
-      → IsWritersAt (seal_of es name) (w.files name) (in_chunk name (placed_of (notes es))) (in_chunk name w.records)
+      → IsWritersAt (seal_of es name) (w.files name)
+      (in_chunk name (placed_of (notes es)))
+      (in_chunk name w.records)
   pub none_gone : (name : ChunkName) → w.gone name ≡ None
 
 -- The writer has done nothing since a restart: it has no file and no record.

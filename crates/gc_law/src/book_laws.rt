@@ -44,9 +44,11 @@ pub fn a_table_stays_tied()
         → KeptBy p heard c → Ties p heard c b → RemovesSource c t name
         → ((e : Entry) → IsOneOf e b.present → e.chunk ≡ name → is_live b e ≡ false) → Ties p heard t b }
     ensures fixed { (p : ℕ) (heard : List NotedEvent) (c t : Gathered) (b : Book) (removed : Names)
-        → KeptBy p heard c → Ties p heard c b → FixesRemovals p heard c t removed → Ties p heard t (table_outside removed b) }
+        → KeptBy p heard c → Ties p heard c b → FixesRemovals p heard c t removed
+        → Ties p heard t (table_outside removed b) }
     // Where chunks are forgotten one by one, their occurrences are.
-    ensures forgotten { (b : Book) (names : List ChunkName) → forgotten_each b names ≡ table_outside (among names) b }
+    ensures forgotten { (b : Book) (names : List ChunkName)
+        → forgotten_each b names ≡ table_outside (among names) b }
 {}
 
 /// A copy that was appended whole lies so in its copy file until it is secured; and with both syncs all copies
@@ -61,8 +63,10 @@ pub fn copies_wait_whole()
         → AreCopied p (heard ++ SealEvent name file size ∷ []) t.files b.present }
     ensures begun { (p : ℕ) (heard : List NotedEvent) (c t : Gathered) (b : Book) (name : ChunkName)
         → AreCopied p heard c.files b.present → BeginsCopyFile c t name → AreCopied p heard t.files b.present }
-    ensures copied { (p : ℕ) (heard : List NotedEvent) (c t : Gathered) (b : Book) (x : RecordCopy) (e : Entry) (chunk : ChunkName)
-        → CopiesRecord p heard c t x → x.missing ≡ [] → x.target.partition.0 ≡ p → AreCopied p heard c.files b.present
+    ensures copied { (p : ℕ) (heard : List NotedEvent) (c t : Gathered) (b : Book)
+        (x : RecordCopy) (e : Entry) (chunk : ChunkName)
+        → CopiesRecord p heard c t x → x.missing ≡ [] → x.target.partition.0 ≡ p
+        → AreCopied p heard c.files b.present
         → last_in b.present (seq_of x.content) x.source ≡ Some e → e.id ≡ identity_of x.content
         → IsOneOf (Own x.content chunk) (notes heard)
         → AreCopied p heard t.files (copied_in b (seq_of x.content) x.source x.target).present }

@@ -34,7 +34,8 @@ pub fn a_cycle_keeps()
     ensures secured { (p : ℕ) (heard : List NotedEvent) (c t : Gathered)
         → KeptBy p heard c → SecuresFiles p c t → KeptBy p heard t }
     ensures removed { (p : ℕ) (heard : List NotedEvent) (c t : Gathered) (name : ChunkName)
-        → KeptBy p heard c → name.partition.0 ≡ p → RemovesSource c t name → IsSpare p heard c name → KeptBy p heard t }
+        → KeptBy p heard c → name.partition.0 ≡ p → RemovesSource c t name → IsSpare p heard c name
+        → KeptBy p heard t }
     ensures fixed { (p : ℕ) (heard : List NotedEvent) (c t : Gathered) (removed : Names)
         → KeptBy p heard c → FixesRemovals p heard c t removed → KeptBy p heard t }
 {}

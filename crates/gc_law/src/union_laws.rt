@@ -62,8 +62,8 @@ pub fn names_keep_apart()
         → Tells w (heard ++ unheard) a → KeepNames w c heard unheard first → AreApart w unheard c }
 {}
 
-/// A copy chunk with a number from the collector's first one on has no event, where all copy chunks of the events have
-/// smaller numbers.
+/// A copy chunk with a number from the collector's first one on has no event, where all copy chunks of the events
+/// have smaller numbers.
 pub fn a_new_copy_chunk_has_no_event()
     ensures { (first : ℕ) (es : List NotedEvent) (name : ChunkName) → CopiesBelow first es
         → IsCopyKind name.kind → first ≤ name.number.0 → IsClosed name es }
