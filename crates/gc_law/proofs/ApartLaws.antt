@@ -11,10 +11,7 @@ use Rattle.dir_files.specs.Ports.{either_file}
 use Rattle.gc_law.specs.Both.{AreApart, CopiesBelow, IsCopyKind, KeepNames}
 use Rattle.gc_law.specs.WriterFacts.{Tells, IsWritersAt}
 use Rattle.gc_law.specs.CollectorFacts.{Gathered}
-use Rattle.gc_law.proofs.EventLaws.{seal_of-append, closed_behind}
-
-none_some : {A : Type 0} (a : A) → None ≡ Some a → ⊥
-none_some a e = cc
+use Rattle.gc_law.proofs.EventLaws.{none_some, seal_of-append, closed_behind}
 
 none_by : (x : Option FileState) → ((f : FileState) → x ≡ Some f → ⊥) → x ≡ None
 none_by None h = refl

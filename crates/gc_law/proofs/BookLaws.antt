@@ -20,9 +20,7 @@ use Rattle.gc_event.specs.Books.{Entry, Book}
 use Rattle.gc_event.specs.Live.{is_value, is_clear, is_value_class, is_clear_class, is_greatest, is_newest, has_older, has_older_under, is_needed, is_live}
 use Rattle.gc_law.specs.Ties.{Ties}
 use Rattle.gc_event.proofs.NoteLaws.{top_is}
-
-both : {A : Type 0} (b : Bool) → b ≡ true → b ≡ false → A
-both b t f = absurd (true≢false (sym t ∙ f))
+use Rattle.gc_law.proofs.EventLaws.{both}
 
 -- ---- tests over a list
 

@@ -1,7 +1,6 @@
 -- Copies lie whole in their copy files until they are secured.
 use Rattle.std.specs.Prelude.{◌≡◌, ℕ, ◌==◌, ◌&&◌, Bool, true, false, cond, if◌then◌else◌, List, [], ◌∷◌, ◌++◌, length, map, All, Option, Some, None, is_some, refl}
 use Rattle.std.proofs.Common.{sym, ◌∙◌, ap, subst, inl, inr, arith, true≢false}
-use Rattle.std.specs.List.{AllByRecursion}
 use Rattle.std.proofs.lemmas.Bool.{and_parts}
 use Rattle.std.proofs.lemmas.List.{append-nil}
 use Rattle.std.proofs.lemmas.List.Elements.{All-from_recursion, recursion_from_All}
@@ -18,17 +17,12 @@ use Rattle.crash_law.specs.Numbered.{IsIn}
 use Rattle.crash_law.proofs.PlacedLaws.{in_left, in_right}
 use Rattle.gc_law.specs.Events.{NotedEvent, RecordEvent, SealEvent, notes, IsTelling}
 use Rattle.gc_law.specs.CollectorFacts.{Gathered, IsSafeAt}
-use Rattle.gc_law.proofs.EventLaws.{from_map, one_of_append, one_of_left, notes-append}
+use Rattle.gc_law.proofs.EventLaws.{none_some, one_some, from_map, one_of_append, one_of_left, notes-append}
 use Rattle.gc_event.specs.Notes.{IsOneOf, Identity, identity_of, Note, Own, Dead, is_own, number_of}
 use Rattle.gc_event.specs.Books.{Entry, Book, with_place, entry_of, heard_in, last_in, copy_of, copied_in, is_waiting, settled, moved_in}
+use Rattle.gc_law.proofs.StepLaws.{each_left}
 use Rattle.gc_law.specs.Steps.{HearsNote, HearsSeal, BeginsCopyFile, RecordCopy, CopiesRecord, SecuresFiles}
 use Rattle.gc_law.specs.Ties.{IsCopied, AreCopied, AreSecured}
-
-none_some : {A : Type 0} (a : A) → None ≡ Some a → ⊥
-none_some a e = cc
-
-one_some : {A : Type 0} (a b : A) → Some a ≡ Some b → a ≡ b
-one_some a b e = cc
 
 -- ---- they are secured
 
@@ -79,12 +73,8 @@ copies_moved p heard files b e i waiting = absurd (true≢false (sym (and_parts 
 
 -- ---- a copy more
 
-each_by : (P : Record → Type 0) (xs ys : List Record) → AllByRecursion P (xs ++ ys) → AllByRecursion P xs
-each_by P [] ys h = tt
-each_by P (x ∷ xs) ys h = (h.0, each_by P xs ys h.1)
-
 each_front : (P : Record → Type 0) (xs ys : List Record) → All P (xs ++ ys) → All P xs
-each_front P xs ys h = All-from_recursion P xs (each_by P xs ys (recursion_from_All P (xs ++ ys) h))
+each_front P xs ys h = All-from_recursion P xs (each_left P xs ys (recursion_from_All P (xs ++ ys) h))
 
 module _ (p : ℕ) (heard : List NotedEvent) (c t : Gathered) (q : RecordCopy) (copies : CopiesRecord p heard c t q) (all : q.missing ≡ []) where
   bytes_now : (copies.file.bytes ++ q.piece) ≡ spellings (copies.records ++ q.content ∷ [])

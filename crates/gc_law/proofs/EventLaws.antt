@@ -23,6 +23,15 @@ use Rattle.gc_event.specs.Notes.{IsOneOf, Identity, identity_of, concerns, Note,
 use Rattle.gc_law.specs.Events.{NotedEvent, RecordEvent, SealEvent, notes, seal_of, sealed_image, placed_of, NotFalling, IsClosed, SealsLast, IsSealedFile, IsTelling, IsTold}
 use Rattle.dir_files.specs.Ports.{either_file}
 
+pub none_some : {A : Type 0} (a : A) → None ≡ Some a → ⊥
+none_some a e = cc
+
+pub one_some : {A : Type 0} (a b : A) → Some a ≡ Some b → a ≡ b
+one_some a b e = cc
+
+pub both : {A : Type 0} (b : Bool) → b ≡ true → b ≡ false → A
+both b t f = absurd (true≢false (sym t ∙ f))
+
 -- a record's command touches the keys that its identity concerns
 pub touches_is : (r : Record) (k : Key) → touches (command_of r) k ≡ concerns (identity_of r) k
 touches_is (Value seq prefix key value) k = refl
@@ -94,9 +103,6 @@ seal_of-append [] ys name = refl
 seal_of-append (RecordEvent note ∷ xs) ys name = seal_of-append xs ys name
 seal_of-append (SealEvent own file size ∷ xs) ys name =
     ap (λ (x : Option FileState). cond (is_name name own) (Some file) x) (seal_of-append xs ys name) ∙ or_by (is_name name own) file (seal_of xs name) (seal_of ys name)
-
-none_some : {A : Type 0} (a : A) → None ≡ Some a → ⊥
-none_some a e = cc
 
 closed_by : (b : Bool) (name own : ChunkName) (file f : FileState) (xs ys : List NotedEvent) → is_name name own ≡ b → IsClosed own (xs ++ ys)
     → (seal_of xs name ≡ Some f → IsClosed name ys) → cond b (Some file) (seal_of xs name) ≡ Some f → IsClosed name ys

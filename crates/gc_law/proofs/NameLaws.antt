@@ -29,7 +29,7 @@ use Rattle.dir_files.specs.Ports.{either_file}
 use Rattle.gc_law.specs.WriterFacts.{Tells, IsWritersAt}
 use Rattle.gc_law.specs.CollectorFacts.{Gathered, HoldsSplit, IsSafeAt, IsGatheredFile, KeptBy}
 use Rattle.gc_law.specs.Both.{files_of_both, AreApart}
-use Rattle.gc_law.proofs.EventLaws.{one_of_append, one_of_left, one_of_right, notes-append, seal_of-append, closed_behind, placed_in_chunk, in_chunk_placed}
+use Rattle.gc_law.proofs.EventLaws.{one_some, one_of_append, one_of_left, one_of_right, notes-append, seal_of-append, closed_behind, placed_in_chunk, in_chunk_placed}
 use Rattle.gc_law.proofs.SplitLaws.{split_leaves}
 
 -- ---- what is read under a name
@@ -51,9 +51,6 @@ pub record Reads (image : Image) (name : ChunkName) (recs : List Record) : Type 
 
 some_none : {A : Type 0} (a : A) → Some a ≡ None → ⊥
 some_none a e = cc
-
-one_some : {A : Type 0} (a b : A) → Some a ≡ Some b → a ≡ b
-one_some a b e = cc
 
 reads_none : (image : Image) (name : ChunkName) → image name ≡ None → Reads image name []
 reads_none image name none = record {

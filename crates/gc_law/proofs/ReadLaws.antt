@@ -21,9 +21,7 @@ use Rattle.gc_law.specs.CollectorFacts.{Gathered, KeptBy, nothing_gathered}
 use Rattle.gc_law.specs.Both.{files_of_both, AreApart}
 use Rattle.gc_law.proofs.StepLaws.{kept_nothing}
 use Rattle.gc_law.proofs.UnionLaws.{union_recovers, union_all}
-
-none_some : {A : Type 0} (a : A) → None ≡ Some a → ⊥
-none_some a e = cc
+use Rattle.gc_law.proofs.EventLaws.{none_some}
 
 -- nothing is heard: the writer's files, and those in its Seals
 pub teller_survives : (w : Written) (es : List NotedEvent) (a : Account) → Tells w es a → PartSurvives w.partition (λ name. either_file (w.files name) (seal_of es name)) (λ name. None) a

@@ -28,10 +28,7 @@ use Rattle.gc_law.specs.Events.{NotedEvent, notes, seal_of, sealed_image, placed
 use Rattle.gc_law.specs.WriterFacts.{IsStateBy, IsWritersAt, Tells, HasDoneNothing}
 use Rattle.gc_law.specs.Restarting.{IsFoundFile, IsFoundNote, NotesFound, Opens}
 use Rattle.gc_event.proofs.NoteLaws.{top_is, top_none}
-use Rattle.gc_law.proofs.EventLaws.{touches_is}
-
-none_some : {A : Type 0} (a : A) → None ≡ Some a → ⊥
-none_some a e = cc
+use Rattle.gc_law.proofs.EventLaws.{none_some, touches_is}
 
 module _ (p : ℕ) (es : List NotedEvent) (b : WriterStart) (base : Base p b.found b.maps b.first) (found : NotesFound p b.found es) where
   -- two notes with one number are of one record

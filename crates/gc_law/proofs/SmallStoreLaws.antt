@@ -27,9 +27,7 @@ use Rattle.gc_law.specs.Events.{RecordEvent, notes, seal_of, IsSealedFile, IsTel
 use Rattle.gc_law.specs.SmallStore.{durable_file, open_file, events, record_since, durable_maps, account, writer, collector}
 use Rattle.gc_law.specs.WriterFacts.{IsStateBy, IsWritersAt, Tells}
 use Rattle.gc_law.proofs.TellingLaws.{telling_noted, telling_sealed}
-
-none_some : {A : Type 0} (a : A) → None ≡ Some a → ⊥
-none_some a e = cc
+use Rattle.gc_law.proofs.EventLaws.{none_some}
 
 -- ---- the records, and the file that has the first
 

@@ -31,7 +31,7 @@ use Rattle.dir_files.specs.Ports.{either_file}
 use Rattle.gc_law.specs.CollectorFacts.{Gathered, HoldsSplit, IsSafeAt, IsSafe, HasPlace, KeepsBy, KeepsTop, IsGatheredFile, KeptBy, nothing_gathered}
 use Rattle.gc_law.specs.Steps.{HearsNote, HearsSeal, BeginsCopyFile, RecordCopy, CopiesRecord, SecuresFiles, IsSpare, RemovesSource, outside, FixesRemovals}
 use Rattle.gc_event.proofs.NoteLaws.{top_is, top-push_cases}
-use Rattle.gc_law.proofs.EventLaws.{in_filter, from_filter, one_of_append, one_of_left, one_of_right, notes-append, seal_of-append, closed_behind, falling_across}
+use Rattle.gc_law.proofs.EventLaws.{none_some, one_some, in_filter, from_filter, one_of_append, one_of_left, one_of_right, notes-append, seal_of-append, closed_behind, falling_across}
 
 -- ---- what is kept of a top
 
@@ -55,12 +55,6 @@ tops_more p heard later c t k (Some (Dead id chunk)) f h = tt
 tops_more p heard later c t k (Some (Own r chunk)) f h = f r chunk refl h
 
 -- ---- files
-
-none_some : {A : Type 0} (a : A) → None ≡ Some a → ⊥
-none_some a e = cc
-
-one_some : {A : Type 0} (a b : A) → Some a ≡ Some b → a ≡ b
-one_some a b e = cc
 
 pub safe_same : (files changed : Files) (name : ChunkName) (r : Record) → changed name ≡ files name → IsSafeAt files name r → IsSafeAt changed name r
 safe_same files changed name r same s = record { file = s.file; safe = s.safe; more = s.more; rest = s.rest; there = same ∙ s.there; named = s.named; holds = s.holds; has = s.has }
@@ -526,7 +520,7 @@ module _ (p : ℕ) (heard : List NotedEvent) (c t : Gathered) (h : KeptBy p hear
       not_some None u v = absurd (true≢false (sym v))
       not_some (Some g) u v = none_some g (sym u)
 
-each_left : (P : Record → Type 0) (xs ys : List Record) → AllByRecursion P (xs ++ ys) → AllByRecursion P xs
+pub each_left : (P : Record → Type 0) (xs ys : List Record) → AllByRecursion P (xs ++ ys) → AllByRecursion P xs
 each_left P [] ys h = tt
 each_left P (x ∷ xs) ys h = (h.0, each_left P xs ys h.1)
 

@@ -18,10 +18,7 @@ use Rattle.record_format.proofs.SplitLaws.{one_split}
 use Rattle.gc_event.specs.Notes.{IsOneOf, Identity, Note, Own, id_of, chunk_of, number_of}
 use Rattle.gc_law.specs.Events.{NotedEvent, RecordEvent, SealEvent, notes, seal_of, sealed_image, NotFalling, IsClosed, SealsLast, IsSealedFile, IsTelling}
 use Rattle.dir_files.specs.Ports.{either_file}
-use Rattle.gc_law.proofs.EventLaws.{one_of_append, one_of_left, notes-append, seal_of-append, in_seal}
-
-none_some : {A : Type 0} (a : A) → None ≡ Some a → ⊥
-none_some a e = cc
+use Rattle.gc_law.proofs.EventLaws.{none_some, one_of_append, one_of_left, notes-append, seal_of-append, in_seal}
 
 or_none : (x y : Option FileState) → y ≡ None → either_file x y ≡ x
 or_none None y e = e

@@ -21,18 +21,9 @@ use Rattle.gc_event.specs.Books.{Entry, Book, new_book, with_place, heard_in, is
 use Rattle.gc_event.specs.Live.{is_live, is_needed}
 use Rattle.gc_law.specs.Ties.{HasPlaceIn, IsOfEvent, Ties, table_outside, forgotten_each, AreSecured}
 use Rattle.gc_event.proofs.NoteLaws.{top_is, top-push_cases, top-push, push}
-use Rattle.gc_law.proofs.EventLaws.{in_filter, from_filter, in_map, from_map, one_of_append, one_of_left, one_of_right, notes-append}
+use Rattle.gc_law.proofs.EventLaws.{none_some, one_some, both, in_filter, from_filter, in_map, from_map, one_of_append, one_of_left, one_of_right, notes-append}
 use Rattle.gc_law.proofs.StepLaws.{was_present, keeps_more, keeps_placed, safe_same, unsealed, seal_same, none_smaller, notes_same, safe_now, seal_other, notes_now, sealed, risen_safe_by, safe_here, none_on}
 use Rattle.gc_law.proofs.BookLaws.{not_needed, any_here}
-
-none_some : {A : Type 0} (a : A) → None ≡ Some a → ⊥
-none_some a e = cc
-
-one_some : {A : Type 0} (a b : A) → Some a ≡ Some b → a ≡ b
-one_some a b e = cc
-
-both : {A : Type 0} (b : Bool) → b ≡ true → b ≡ false → A
-both b t f = absurd (true≢false (sym t ∙ f))
 
 -- ---- a record event is heard
 

@@ -31,7 +31,7 @@ use Rattle.gc_law.specs.WriterFacts.{IsStateBy, Tells}
 use Rattle.gc_law.specs.CollectorFacts.{Gathered, HasPlace, KeepsBy, KeepsTop, KeptBy}
 use Rattle.gc_law.specs.Both.{files_of_both, AreApart}
 use Rattle.gc_event.proofs.NoteLaws.{top_is, top_none, some_top}
-use Rattle.gc_law.proofs.EventLaws.{in_map, touches_is, one_of_left, one_of_right, falling_across, notes-append, closed_behind, placed_at, told_noted, one_told}
+use Rattle.gc_law.proofs.EventLaws.{both, in_map, touches_is, one_of_left, one_of_right, falling_across, notes-append, closed_behind, placed_at, told_noted, one_told}
 use Rattle.gc_law.proofs.NameLaws.{LeftAt, IsKnown, left_at, heard_noted, noted_in}
 
 -- ---- the deciding record of a list
@@ -44,9 +44,6 @@ record IsGreatest (test : Record → Bool) (rs : List Record) (r : Record) : Typ
 
 abbrev Found : (Record → Bool) → List Record → Type 0
 Found test rs = ((r : Record) × IsGreatest test rs r) ⊎ ((r : Record) → IsIn r rs → test r ≡ false)
-
-both : {A : Type 0} (b : Bool) → b ≡ true → b ≡ false → A
-both b t f = absurd (true≢false (sym t ∙ f))
 
 found_by : (test : Record → Bool) (x : Record) (xs : List Record) (b : Bool) → test x ≡ b → Found test xs → Found test (x ∷ xs)
 found_by test x xs false left (inl w) = inl (

@@ -75,8 +75,8 @@ pub record CopiesRecord (p : ℕ) (heard : List NotedEvent) (c t : Gathered) (x 
   pub gone : SameAt c.gone t.gone
   pub present : t.present ≡ c.present ++ occurrence (identity_of x.content) x.target ∷ []
 
--- Files were synced, or the directory was: of each file a crash keeps more, and a removed one may be gone for
--- good. No occurrence comes or goes.
+-- Files were synced, or the directory was: of each file a crash keeps as much or more, and a removed one may be
+-- gone for good. No occurrence comes or goes. It holds too where nothing of the partition changed.
 pub record SecuresFiles (p : ℕ) (c t : Gathered) : Type 0 where
   pub rises : (name : ChunkName) → name.partition.0 ≡ p → Rises (c.files name) (t.files name)
   pub gone : (name : ChunkName) (file : FileState) → name.partition.0 ≡ p → t.gone name ≡ Some file
