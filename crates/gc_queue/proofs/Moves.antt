@@ -71,8 +71,9 @@ module _ {File : Type 0} {h : NamedGhosts File} where
   -- the next one of those that are known is the next one that was noted
   pub next_is_front : (t : Teller File h) (a b : Hearer File h) (e : Event File)
       → heard a ++ known a ≡ told t → heard b ≡ heard a ++ e ∷ [] → known a ≡ e ∷ known b → IsPrefix (heard b) (noted t)
-  next_is_front t a b e whole more next =
-      (known b ++ backlog t,
-       sym (append_assoc (heard b) (known b) (backlog t))
-       ∙ ap (λ xs. xs ++ backlog t)
-           (ap (λ xs. xs ++ known b) more ∙ append_assoc (heard a) (e ∷ []) (known b) ∙ ap (λ xs. heard a ++ xs) (sym next) ∙ whole))
+  next_is_front t a b e whole more next = (
+    known b ++ backlog t,
+    sym (append_assoc (heard b) (known b) (backlog t))
+        ∙ ap (λ xs. xs ++ backlog t)
+        (ap (λ xs. xs ++ known b) more ∙ append_assoc (heard a) (e ∷ []) (known b) ∙ ap (λ xs. heard a ++ xs) (sym next) ∙ whole),
+  )

@@ -30,7 +30,9 @@ pub fn pair<File: Named + Drop>(
     let (producer, consumer) = RingBuffer::with_protocol::<Global, Bounds>(alloc, capacity)?;
     let teller = Teller {
         ring: producer,
-        backlog: Backlog { events: VecDeque::new(alloc) },
+        backlog: Backlog {
+            events: VecDeque::new(alloc),
+        },
     };
     let hearer = Hearer {
         ring: consumer,

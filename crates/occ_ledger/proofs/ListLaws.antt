@@ -75,7 +75,7 @@ module _ (now old : List Spot) (i : ℕ) (c : Spot) (here : i < length now) (ins
       ap (λ s. place_in now s (drop (i + 1) now)) (read_old now old i c here inside rest)
       ∙ ap (λ ss. place_in now (get_or old i c) ss) (rest_old now old i c here inside rest)
       ∙ (let s = get_or old i c in
-         ap (λ b. if is_waiting (entry_in s) then not (spots_copy (drop (i + 1) old) (identity_in s.mark).seq) else s.place && not b) (copy_same (identity_in s.mark).seq))
+      ap (λ b. if is_waiting (entry_in s) then not (spots_copy (drop (i + 1) old) (identity_in s.mark).seq) else s.place && not b) (copy_same (identity_in s.mark).seq))
 
   pub placed_front : (place : Bool) → place ≡ place_in now (get_or now i c) (drop (i + 1) now)
       → take (i + 1) (set now i (with_spot (get_or now i c).waiting place (get_or now i c))) ≡ take (i + 1) (placed old old)
@@ -96,8 +96,8 @@ settled_is all [] = refl
 settled_is all (s ∷ ss) =
     ap (λ es. entry_in (ended_spot (with_spot s.waiting (place_in all s ss) s)) ∷ es) (settled_is all ss)
     ∙ ap (λ b. entry_in (ended_spot (with_spot s.waiting b s)) ∷ settled (map entry_in all) (map entry_in ss))
-        (sym (ap (λ b. if is_waiting (entry_in s) then not b else s.place && not (has_copy (map entry_in all) (identity_in s.mark).seq)) (copy_is ss (identity_in s.mark).seq)
-          ∙ ap (λ b. if is_waiting (entry_in s) then not (spots_copy ss (identity_in s.mark).seq) else s.place && not b) (copy_is all (identity_in s.mark).seq)))
+    (sym (ap (λ b. if is_waiting (entry_in s) then not b else s.place && not (has_copy (map entry_in all) (identity_in s.mark).seq)) (copy_is ss (identity_in s.mark).seq)
+    ∙ ap (λ b. if is_waiting (entry_in s) then not (spots_copy ss (identity_in s.mark).seq) else s.place && not b) (copy_is all (identity_in s.mark).seq)))
 
 -- ---- what is told
 
@@ -135,7 +135,7 @@ spots_more m chunk own ss = map (unplaced_spot own (identity_in m).seq) ss ++ re
 
 heard_by_own : (m : Mark) (chunk : ChunkName) (own : Bool) → own ≡ is_some (content_in m) → (es : List Note) (ss : List Spot)
     → record { told = es ++ note_in (m, chunk) ∷ []; present = map entry_in (map (unplaced_spot own (identity_in m).seq) ss) ++ entry_in (record { mark = m; chunk = chunk; waiting = false; place = own }) ∷ [] }
-      ≡ heard_in (record { told = es; present = map entry_in ss }) (note_in (m, chunk))
+    ≡ heard_in (record { told = es; present = map entry_in ss }) (note_in (m, chunk))
 heard_by_own (Own content) chunk true e es ss = λ i. record { told = es ++ note_in (Own content, chunk) ∷ []; present = unplaced_all true (identity_in (Own content)).seq ss i ++ entry_of (note_in (Own content, chunk)) ∷ [] }
 heard_by_own (Own content) chunk false e es ss = absurd (true≢false (sym e))
 heard_by_own (Dead seq prefix key class) chunk true e es ss = absurd (true≢false e)
@@ -145,8 +145,10 @@ pub heard_is : (m : Mark) (chunk : ChunkName) (own : Bool) → own ≡ is_some (
     → k.told.items ≡ told_more m chunk l.told.items → k.present.items ≡ spots_more m chunk own l.present.items
     → book_in k ≡ heard_in (book_in l) (note_in (m, chunk))
 heard_is m chunk own e l k t r =
-    (λ i. record { told = (ap (map told_in) t ∙ map_last told_in l.told.items (record { mark = m; chunk = chunk })) i;
-                   present = (ap (map entry_in) r ∙ map_last entry_in (map (unplaced_spot own (identity_in m).seq) l.present.items) (record { mark = m; chunk = chunk; waiting = false; place = own })) i })
+    (λ i. record {
+      told = (ap (map told_in) t ∙ map_last told_in l.told.items (record { mark = m; chunk = chunk })) i;
+      present = (ap (map entry_in) r ∙ map_last entry_in (map (unplaced_spot own (identity_in m).seq) l.present.items) (record { mark = m; chunk = chunk; waiting = false; place = own })) i;
+    })
     ∙ heard_by_own m chunk own e (map told_in l.told.items) l.present.items
 
 -- ---- what goes
@@ -206,8 +208,10 @@ pub copied_is : (l k : Lists) (n : ℕ) (source to : ChunkName) (s : Spot) → l
     → k.told.items ≡ l.told.items → k.present.items ≡ l.present.items ++ record { mark = s.mark; chunk = to; waiting = true; place = false } ∷ []
     → book_in k ≡ copied_in (book_in l) n source to
 copied_is l k n source to s last t r =
-    (λ i. record { told = map told_in (t i);
-                   present = (ap (map entry_in) r ∙ map_last entry_in l.present.items (record { mark = s.mark; chunk = to; waiting = true; place = false })) i })
+    (λ i. record {
+      told = map told_in (t i);
+      present = (ap (map entry_in) r ∙ map_last entry_in l.present.items (record { mark = s.mark; chunk = to; waiting = true; place = false })) i;
+    })
     ∙ ap (λ o. record { told = map told_in l.told.items; present = map entry_in l.present.items ++ copy_of o to }) (sym last)
 
 append_none : {A : Type 0} (xs : List A) → xs ++ [] ≡ xs

@@ -120,14 +120,14 @@ older_under_is v p n = sym (any_seen entry_in (is_kept v.without) (λ o. is_valu
 pub stale_is : (v : Seen) (k : Key) → scan_stale v k ≡ stale (book_seen v) k
 stale_is v k =
     sym (count_seen entry_in (is_kept v.without) (λ e. is_value e.id && is_key k e.id.key && is_passed (book_seen v).present k e.id.seq) _
-      (λ e. and4 (is_kept v.without (entry_in e)) (is_value (identity_in e.mark)) (is_key k (identity_in e.mark).key) (is_passed (book_seen v).present k (identity_in e.mark).seq) ∙ ap (λ b. is_kept v.without (entry_in e) && is_value (identity_in e.mark) && is_key k (identity_in e.mark).key && b) (sym (passed_is v k (identity_in e.mark).seq)))
-      v.present.now)
+    (λ e. and4 (is_kept v.without (entry_in e)) (is_value (identity_in e.mark)) (is_key k (identity_in e.mark).key) (is_passed (book_seen v).present k (identity_in e.mark).seq) ∙ ap (λ b. is_kept v.without (entry_in e) && is_value (identity_in e.mark) && is_key k (identity_in e.mark).key && b) (sym (passed_is v k (identity_in e.mark).seq)))
+    v.present.now)
 
 pub stale_under_is : (v : Seen) (p : ℕ) → scan_stale_under v p ≡ stale_prefix (book_seen v) p
 stale_under_is v p =
     sym (count_seen entry_in (is_kept v.without) (λ e. is_value e.id && (e.id.key.prefix == p) && is_passed_under (book_seen v).present p e.id.seq) _
-      (λ e. and4 (is_kept v.without (entry_in e)) (is_value (identity_in e.mark)) ((identity_in e.mark).key.prefix == p) (is_passed_under (book_seen v).present p (identity_in e.mark).seq) ∙ ap (λ b. is_kept v.without (entry_in e) && is_value (identity_in e.mark) && ((identity_in e.mark).key.prefix == p) && b) (sym (passed_under_is v p (identity_in e.mark).seq)))
-      v.present.now)
+    (λ e. and4 (is_kept v.without (entry_in e)) (is_value (identity_in e.mark)) ((identity_in e.mark).key.prefix == p) (is_passed_under (book_seen v).present p (identity_in e.mark).seq) ∙ ap (λ b. is_kept v.without (entry_in e) && is_value (identity_in e.mark) && ((identity_in e.mark).key.prefix == p) && b) (sym (passed_under_is v p (identity_in e.mark).seq)))
+    v.present.now)
 
 -- ---- what is live
 
@@ -142,16 +142,16 @@ live_is v s = ap (λ b. s.place && b) (needed_is (identity_in s.mark).class v (i
 pub lives_is : (v : Seen) (n : ℕ) → scan_lives v n ≡ lives (book_seen v) n
 lives_is v n =
     sym (any_seen entry_in (is_kept v.without) (λ e. (e.id.seq == n) && is_live (book_seen v) e) _
-      (λ e. and3 (is_kept v.without (entry_in e)) ((identity_in e.mark).seq == n) (is_live (book_seen v) (entry_in e)) ∙ ap (λ b. is_kept v.without (entry_in e) && ((identity_in e.mark).seq == n) && b) (sym (live_is v e)))
-      v.present.now)
+    (λ e. and3 (is_kept v.without (entry_in e)) ((identity_in e.mark).seq == n) (is_live (book_seen v) (entry_in e)) ∙ ap (λ b. is_kept v.without (entry_in e) && ((identity_in e.mark).seq == n) && b) (sym (live_is v e)))
+    v.present.now)
 
 pub lapsed_is : (v after : Seen) → scan_lapsed v after ≡ lapsed (book_seen v) (book_seen after)
 lapsed_is v after =
     sym (count_seen entry_in (is_kept v.without) (λ e. not (is_value e.id) && is_live (book_seen v) e && not (lives (book_seen after) e.id.seq)) _
-      (λ e. and4 (is_kept v.without (entry_in e)) (not (is_value (identity_in e.mark))) (is_live (book_seen v) (entry_in e)) (not (lives (book_seen after) (identity_in e.mark).seq))
-        ∙ ap (λ b. is_kept v.without (entry_in e) && not (is_value (identity_in e.mark)) && b && not (lives (book_seen after) (identity_in e.mark).seq)) (sym (live_is v e))
-        ∙ ap (λ b. is_kept v.without (entry_in e) && not (is_value (identity_in e.mark)) && scan_live v e && not b) (sym (lives_is after (identity_in e.mark).seq)))
-      v.present.now)
+    (λ e. and4 (is_kept v.without (entry_in e)) (not (is_value (identity_in e.mark))) (is_live (book_seen v) (entry_in e)) (not (lives (book_seen after) (identity_in e.mark).seq))
+    ∙ ap (λ b. is_kept v.without (entry_in e) && not (is_value (identity_in e.mark)) && b && not (lives (book_seen after) (identity_in e.mark).seq)) (sym (live_is v e))
+    ∙ ap (λ b. is_kept v.without (entry_in e) && not (is_value (identity_in e.mark)) && scan_live v e && not b) (sym (lives_is after (identity_in e.mark).seq)))
+    v.present.now)
 
 pub among_is : (v : Seen) (chunk : ChunkName) (ss : List Spot) → scan_among v chunk ss ≡ live_among (book_seen v) chunk (map entry_in ss)
 among_is v chunk [] = refl

@@ -93,9 +93,9 @@ impl<'a> Seen<'a> {
     fn has_newer(&self, prefix: u64, seq: u64) -> bool
         ensures { result ≡ scan_newer self.now prefix seq }
     {
-        self.told
-            .iter()
-            .any(|n| n.mark.is_clear() && n.mark.prefix() == prefix && seq < n.mark.seq())
+        self.told.iter().any(|n| n.mark.is_clear()
+            && n.mark.prefix() == prefix
+            && seq < n.mark.seq())
     }
 
     // Whether a value of the key with a smaller number is present.
@@ -171,9 +171,7 @@ impl<'a> Seen<'a> {
     fn lives(&self, seq: u64) -> bool
         ensures { result ≡ scan_lives self.now seq }
     {
-        self.present
-            .iter()
-            .any(|e| self.keeps(e) && e.mark.seq() == seq && self.is_live(e))
+        self.present.iter().any(|e| self.keeps(e) && e.mark.seq() == seq && self.is_live(e))
     }
 
     /// How many tombstones and prefix tombstones are live here, and not in what is left afterwards.
@@ -183,10 +181,7 @@ impl<'a> Seen<'a> {
         self.present
             .iter()
             .filter(|e| {
-                self.keeps(e)
-                    && !e.mark.is_value()
-                    && self.is_live(e)
-                    && !after.lives(e.mark.seq())
+                self.keeps(e) && !e.mark.is_value() && self.is_live(e) && !after.lives(e.mark.seq())
             })
             .count()
     }

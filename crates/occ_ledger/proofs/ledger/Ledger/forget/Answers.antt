@@ -11,4 +11,4 @@ returns-clause-lapsed c =
     let left = seen_without l c.seen-2.result c.seen-2.ensures.told c.seen-2.ensures.present c.args.chunk c.seen-2.ensures.without in
     c.saturating_add-self.ensures
     ∙ ap (λ k. min (lapsed_in c.args.self.now + k) 18446744073709551615)
-        (c.lapsed-lapsed.ensures ∙ lapsed_is c.seen.result c.seen-2.result ∙ (λ i. lapsed (here i) (left i)) ∙ ap (lapsed (book c.args.self.now)) (sym c.forget.ensures))
+    (c.lapsed-lapsed.ensures ∙ lapsed_is c.seen.result c.seen-2.result ∙ (λ i. lapsed (here i) (left i)) ∙ ap (lapsed (book c.args.self.now)) (sym c.forget.ensures))

@@ -11,6 +11,6 @@ returns c =
     let old = c.args.self.now.present.items in
     let made = c.settle.ensures ∙ ap (λ (ss : List Spot). map ended_spot (placed ss ss)) c.as_mut_slice.ensures.value in
     moved_is c.args.self.now (record { told = c.args.self.now.told; present = with_items c.args.self.now.present c.settle.new.present }) refl
-      (with_items_is c.args.self.now.present c.settle.new.present
-          (omega (arith, ap length made, length-map (placed old old) ended_spot, placed_length old old, ap length c.as_mut_slice.ensures.value, c.as_mut_slice.ensures.len))
-       ∙ made)
+    (with_items_is c.args.self.now.present c.settle.new.present
+    (omega (arith, ap length made, length-map (placed old old) ended_spot, placed_length old old, ap length c.as_mut_slice.ensures.value, c.as_mut_slice.ensures.len))
+    ∙ made)

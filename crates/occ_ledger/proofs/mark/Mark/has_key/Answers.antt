@@ -11,4 +11,4 @@ returns-then-prefix c =
     let own = (identity_in c.args.self.now).key in
     c.eq.ensures ∙ ap (λ (t : List ℕ). pointwise nat_eq c.args.key.now t) c.key.ensures
     ∙ sym (key_ties (key_at c.args.prefix c.args.key.now) own.prefix own.bytes
-        ∙ ap (λ (t : Bool). cond t (pointwise nat_eq c.args.key.now own.bytes) false) (ap (nat_eq c.args.prefix) (sym c.prefix.ensures) ∙ (Decides-eqb c.args.prefix c.prefix.result).1 c.if-prefix.true))
+    ∙ ap (λ (t : Bool). cond t (pointwise nat_eq c.args.key.now own.bytes) false) (ap (nat_eq c.args.prefix) (sym c.prefix.ensures) ∙ (Decides-eqb c.args.prefix c.prefix.result).1 c.if-prefix.true))
