@@ -1,5 +1,5 @@
-use Rattle.std.proofs.Common.{◌≡◌, ◌∙◌, ◌++◌, sym, ap, arith}
-use Rattle.gc_queue.specs.Queues.{heard, told}
+use Rattle.std.proofs.Common.{◌∙◌, ◌++◌, sym, ap, arith}
+use Rattle.gc_queue.specs.Queues.{told}
 use Rattle.gc_queue.proofs.Moves.{all_heard, next_is_front, none_known}
 use Rattle.gc_queue.proofs.ends.Hearer.next_beside.Goals as goal
 
