@@ -3,10 +3,10 @@ use Rattle.std.specs.Prelude.{◌≡◌, ℕ, ◌+◌, ◌<◌, ◌≤◌, ◌==
 use Rattle.std.specs.List.{list_any}
 use Rattle.std.specs.Option.{option_map}
 use Rattle.std.proofs.Common.{get_or, set, sym, ◌∙◌, ap, add-one, arith, true≢false}
-use Rattle.std.proofs.lemmas.List.{get_or-drop, drop-set-lt, drop-drop, take_all, take_more, take_more_set, drop_more, map_more}
+use Rattle.std.proofs.lemmas.List.{get_or-drop, drop-set-lt, drop-drop, take_all, take_more, take_more_set, map_more}
 use Rattle.hr_base.specs.declared.name.ChunkName.{ChunkName}
 use Rattle.hr_base.specs.NameTests.{is_name}
-use Rattle.gc_event.specs.Books.{Book, Entry, copied_in, copy_of, entry_of, forgotten_in, has_copy, heard_in, is_at, is_waiting, last_in, moved_in, settled, with_place}
+use Rattle.gc_event.specs.Books.{Entry, copied_in, copy_of, entry_of, forgotten_in, has_copy, heard_in, is_at, is_waiting, last_in, moved_in, settled, with_place}
 use Rattle.gc_event.specs.Notes.{Note}
 use Rattle.occ_ledger.specs.declared.mark.Mark.{Mark}
 use Rattle.occ_ledger.specs.declared.mark.Mark.TheVariants.{Own, Dead}

@@ -14,7 +14,7 @@ use Rattle.record_format.specs.declared.record.Record.{Record}
 use Rattle.record_format.specs.Spelling.{seq_of}
 use Rattle.gc_event.specs.Books.{Book, Entry, forgotten_in}
 use Rattle.gc_event.specs.Live.{by_number, has_older, has_older_under, is_clear, is_greatest, is_live, is_needed, is_newest, is_passed, is_passed_under, is_value, lapsed, live_among, live_records, lives, stale, stale_prefix, with_content}
-use Rattle.gc_event.specs.Notes.{Identity, Note, concerns, id_of, number_of}
+use Rattle.gc_event.specs.Notes.{Identity, concerns, id_of}
 use Rattle.occ_ledger.specs.declared.mark.Mark.{Mark}
 use Rattle.occ_ledger.specs.declared.mark.Mark.TheVariants.{Own, Dead}
 use Rattle.occ_ledger.specs.declared.lists.Notice.{Notice}

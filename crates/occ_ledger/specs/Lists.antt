@@ -1,5 +1,5 @@
 -- A ledger's lists, as the definitions of `gc_event` have them.
-use Rattle.std.specs.Prelude.{Bool, true, not, List, map, filter, Option, Some, None}
+use Rattle.std.specs.Prelude.{Bool, true, not, map, filter, Option, Some, None}
 use Rattle.hr_base.specs.declared.name.ChunkName.{ChunkName}
 use Rattle.hr_base.specs.NameTests.{is_name}
 use Rattle.gc_event.specs.Books.{Book, Entry}

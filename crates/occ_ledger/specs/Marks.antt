@@ -1,5 +1,5 @@
 -- What a ledger keeps of a record, as the definitions of `gc_event` have it.
-use Rattle.std.specs.Prelude.{ℕ, List, Option, Some, None}
+use Rattle.std.specs.Prelude.{Option, Some, None}
 use Rattle.hr_base.specs.declared.name.ChunkName.{ChunkName}
 use Rattle.hr_base.specs.Entries.{key_at}
 use Rattle.record_format.specs.declared.record.Record.{Record}

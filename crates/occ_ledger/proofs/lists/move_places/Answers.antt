@@ -1,5 +1,4 @@
-use Rattle.std.proofs.Common.{◌≡◌, ◌<◌, length, drop, take, ap, sym, ◌∙◌, arith}
-use Rattle.std.proofs.lemmas.List.{drop_all}
+use Rattle.std.proofs.Common.{◌<◌, length, arith}
 use Rattle.occ_ledger.proofs.ListLaws.{placed_all, placed_front, set_rest}
 use Rattle.occ_ledger.proofs.lists.move_places.Goals as goal
 

@@ -1,4 +1,4 @@
-use Rattle.std.proofs.Common.{◌<◌, ◌+◌, ◌∙◌, ap, get_or, length, set, slice_set, take, arith}
+use Rattle.std.proofs.Common.{◌<◌, ◌+◌, ◌∙◌, ap, get_or, length, slice_set, take, arith}
 use Rattle.occ_ledger.specs.Scans.{unplaced_spot, with_spot}
 use Rattle.occ_ledger.proofs.ListLaws.{mapped_front, set_rest}
 use Rattle.occ_ledger.proofs.lists.unplace.Goals as goal

@@ -1,4 +1,4 @@
-use Rattle.std.proofs.Common.{◌≡◌, ◌∙◌, ◌+◌, min, ap, sym}
+use Rattle.std.proofs.Common.{◌∙◌, ◌+◌, min, ap, sym}
 use Rattle.gc_event.specs.Live.{lapsed}
 use Rattle.occ_ledger.specs.Ledgers.{book, lapsed_in}
 use Rattle.occ_ledger.proofs.ScanLaws.{lapsed_is, seen_all, seen_without}

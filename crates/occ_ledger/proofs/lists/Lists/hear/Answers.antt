@@ -1,4 +1,4 @@
-use Rattle.std.proofs.Common.{ℕ, ◌∙◌, ◌++◌, ◌∷◌, [], Bor, ap, arith, is_some, length, map, List, sym, false}
+use Rattle.std.proofs.Common.{ℕ, ◌∙◌, ◌++◌, ◌∷◌, [], Bor, ap, arith, is_some, length, map, List, false}
 use Rattle.std.proofs.lemmas.List.{length-map, with_items_is}
 use Rattle.record_format.specs.declared.record.Record.{Record}
 use Rattle.occ_ledger.specs.Marks.{identity_in}
