@@ -3,7 +3,7 @@
 ghost use Rattle.std.specs.Prelude.{◌<◌};
 
 use super::events::{Fact, Handle, chunk, event_of, tell_record};
-use super::expecting::{expect, expect_text};
+use super::expecting::expect;
 use super::plain::{Call, Plain};
 use gc_event::Event;
 use hr_base::{ChunkName, Class, Kind, Seq, class_of};
@@ -159,7 +159,7 @@ struct Bench {
     ledger: Ledger,
     calls: Vec<Call>,
     asked: u64,
-    name: String,
+    list: u64,
     alloc: Global,
 }
 
@@ -189,70 +189,65 @@ fn tell_plain(told: &mut String, plain: &Plain, chunk: ChunkName) -> Result<bool
 }
 
 impl Bench {
-    fn new(alloc: Global, number: u64) -> Result<Bench, Fail> {
-        Ok(Bench {
+    fn new(alloc: Global, list: u64) -> Bench {
+        Bench {
             ledger: Ledger::new(alloc),
             calls: Vec::new(alloc),
             asked: 0,
-            name: format!(in alloc; "list {number}")?,
+            list,
             alloc,
-        })
+        }
     }
 }
 
 /// Compares a number of the ledger with one of the plain program.
-fn compare(found: u64, wanted: u64, name: &str, asked: &str) -> Result<bool, Fail> {
+fn compare(found: u64, wanted: u64, list: u64, asked: &str) -> Result<bool, Fail> {
     if found == wanted {
         return Ok(wanted > 0);
     }
-    Err(Fail::new(format_args!("{name}: {asked}: {found} and not {wanted}")))
+    Err(Fail::new(format_args!("list {list}: {asked}: {found} and not {wanted}")))
 }
 
 /// Compares what is live in a chunk.
 fn compare_live(
-    alloc: Global,
     ledger: &Ledger,
     plain: &Plain,
     chunk: ChunkName,
-    name: &str,
+    list: u64,
     counts: &mut Counts,
 ) -> Result<(), Fail> {
-    let mut wanted = String::new(alloc);
+    let mut wanted = String::new(plain.alloc);
     let copied = tell_plain(&mut wanted, plain, chunk)?;
-    let mut found = String::new(alloc);
+    let mut found = String::new(plain.alloc);
     for record in &ledger.live(chunk)? {
         tell_record(&mut found, record)?;
     }
-    expect_text(found.as_str(), wanted.as_str(), name, "live")?;
+    if found != wanted {
+        return Err(Fail::new(format_args!("list {list}: {found:?} is live and not {wanted:?}")));
+    }
     count(&mut counts.live, !wanted.is_empty());
     count(&mut counts.copied, copied);
     Ok(())
 }
 
 /// Compares all answers of a ledger with those of the plain program.
-fn compare_all(
-    alloc: Global,
-    ledger: &Ledger,
-    plain: &Plain,
-    name: &str,
-    counts: &mut Counts,
-) -> Result<(), Fail> {
+fn compare_all(ledger: &Ledger, plain: &Plain, list: u64, counts: &mut Counts) -> Result<(), Fail> {
     for prefix in PREFIXES {
         let under = ledger.stale_prefix(prefix);
         count(
             &mut counts.under,
-            compare(under, plain.stale_under(prefix), name, "stale_prefix")?,
+            compare(under, plain.stale_under(prefix), list, "stale_prefix")?,
         );
         for key in KEYS {
             let stale = ledger.stale(prefix, key.as_bytes());
             count(
                 &mut counts.stale,
-                compare(stale, plain.stale(prefix, key), name, "stale")?,
+                compare(stale, plain.stale(prefix, key), list, "stale")?,
             );
         }
     }
     for chunk in chunks() {
-        compare_live(alloc, ledger, plain, chunk, name, counts)?;
+        compare_live(ledger, plain, chunk, list, counts)?;
     }
     counts.answers = counts.answers.saturating_add(13);
     Ok(())
@@ -271,6 +266,34 @@ fn event_in(alloc: Global, call: Call) -> Result<Option<Event<Handle>>, Fail> {
     })
 }
 
+/// Hears an event, compares, and takes it back.
+fn hear_and_undo(
+    ledger: &mut Ledger,
+    event: &Event<Handle>,
+    plain: &Plain,
+    list: u64,
+    counts: &mut Counts,
+) -> Result<(), Fail> {
+    ledger.hear(event)?;
+    compare_all(ledger, plain, list, counts)?;
+    ledger.undo();
+    Ok(())
+}
+
+/// Enters a copy, compares, and takes it back.
+fn copy_and_undo(
+    ledger: &mut Ledger,
+    copy: (u64, ChunkName, ChunkName),
+    plain: &Plain,
+    list: u64,
+    counts: &mut Counts,
+) -> Result<(), Fail> {
+    ledger.copied(Seq(copy.0), copy.1, copy.2)?;
+    compare_all(ledger, plain, list, counts)?;
+    ledger.undo();
+    Ok(())
+}
+
 impl Bench {
     /// What the calls come to, and one more.
     fn plain_with(&self, call: Option<Call>) -> Result<Plain, Fail> {
@@ -284,21 +307,11 @@ impl Bench {
 
     /// Hears an event or enters a copy, compares, and takes it back.
     fn make_and_undo(&mut self, call: Call, counts: &mut Counts) -> Result<(), Fail> {
-        let (alloc, name) = (self.alloc, self.name.as_str());
         let plain = self.plain_with(Some(call))?;
-        match event_in(alloc, call)? {
-            Some(event) => {
-                self.ledger.hear(&event)?;
-                compare_all(alloc, &self.ledger, &plain, name, counts)?;
-                self.ledger.undo();
-            }
-            None => {
-                if let Call::Copied { seq, from, to } = call {
-                    self.ledger.copied(Seq(seq), from, to)?;
-                    compare_all(alloc, &self.ledger, &plain, name, counts)?;
-                    self.ledger.undo();
-                }
-            }
+        if let Call::Copied { seq, from, to } = call {
+            copy_and_undo(&mut self.ledger, (seq, from, to), &plain, self.list, counts)?;
+        } else if let Some(event) = event_in(self.alloc, call)? {
+            hear_and_undo(&mut self.ledger, &event, &plain, self.list, counts)?;
         }
         count(&mut counts.undone, true);
         Ok(())
@@ -323,7 +336,7 @@ impl Bench {
     fn ask_lapsed(&mut self, plain: &Plain, counts: &mut Counts) -> Result<(), Fail> {
         let wanted = plain.lapsed.saturating_sub(self.asked);
         let found = self.ledger.lapsed();
-        let some = compare(found, wanted, self.name.as_str(), "lapsed")?;
+        let some = compare(found, wanted, self.list, "lapsed")?;
         count(&mut counts.lapsed, some);
         self.asked = plain.lapsed;
         Ok(())
@@ -336,17 +349,11 @@ impl Bench {
         let undone = draws.call(number, at, &before)?;
         if draws.below(4) == 0 && !matches!(undone, Call::Moved | Call::Forget(_)) {
             self.make_and_undo(undone, counts)?;
-            compare_all(
-                self.alloc,
-                &self.ledger,
-                &before,
-                self.name.as_str(),
-                counts,
-            )?;
+            compare_all(&self.ledger, &before, self.list, counts)?;
         }
         self.make(draws.call(number, at, &before)?)?;
         let plain = self.plain_with(None)?;
-        compare_all(self.alloc, &self.ledger, &plain, self.name.as_str(), counts)?;
+        compare_all(&self.ledger, &plain, self.list, counts)?;
         let gone = plain.absent() > before.absent();
         count(&mut counts.forgotten, gone);
         if draws.below(2) == 0 {
@@ -371,7 +378,7 @@ fn drawn_calls_give_what_a_plain_program_has(rt: HostRuntime) -> Result<(), Fail
     };
     for number in 0..LISTS {
         let mut draws = Draws { state: number };
-        let mut bench = Bench::new(alloc, number)?;
+        let mut bench = Bench::new(alloc, number);
         for _ in 0..CALLS {
             bench.step(&mut draws, number, &mut counts)?;
         }

@@ -50,7 +50,7 @@ pub struct Plain {
     copies: Vec<usize>,
     moves: Vec<(u64, usize)>,
     pub lapsed: u64,
-    alloc: Global,
+    pub alloc: Global,
 }
 
 impl Plain {
