@@ -1,7 +1,5 @@
 //! Lists of calls that are drawn. After each call every answer of the ledger is compared with that of a plain program.
 
-ghost use Rattle.std.specs.Prelude.{◌<◌};
-
 use super::events::{Fact, Handle, chunk, event_of, tell_record};
 use super::expecting::expect;
 use super::plain::{Call, Plain};
@@ -45,13 +43,11 @@ struct Draws {
 }
 
 impl Draws {
-    /// A number below an end.
-    fn below(&mut self, end: u64) -> u64
-        requires { 0 < end }
-    {
+    /// A number below an end, or 0.
+    fn below(&mut self, end: u64) -> u64 {
         let product = self.state.wrapping_mul(2_862_933_555_777_941_757);
         self.state = product.wrapping_add(3_037_000_493);
-        (self.state >> 33) % end
+        (self.state >> 33).checked_rem(end).unwrap_or(0)
     }
 
     fn chunk(&mut self) -> Result<ChunkName, Fail> {
@@ -105,7 +101,7 @@ impl Draws {
     /// A copy, mostly of what is there, into a chunk of its class, which may be the same.
     fn copy(&mut self, plain: &Plain) -> Result<Call, Fail> {
         let end = (plain.entered.len() as u64).saturating_add(1);
-        let place = self.below(end.max(1)) as usize;
+        let place = self.below(end) as usize;
         let (seq, from) = match plain.entered.get(place) {
             None => (self.below(NUMBERS), self.chunk()?),
             Some(entered) => (entered.fact.seq, entered.chunk),
