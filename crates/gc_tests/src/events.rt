@@ -1,6 +1,9 @@
 //! Events and chunk names as text. All are of partition 0, and a chunk is `v-1`.
 
-ghost use Rattle.std.specs.Prelude.{IfOk};
+ghost use Rattle.std.specs.Prelude.{◌≡◌, ◌≤◌, true, IfOk, OnOk};
+ghost use Rattle.hr_base.specs.declared.limits.TheConstants.{MAX_KEY_LEN, MAX_VALUE_LEN};
+ghost use Rattle.hr_base.specs.Names.{IsChunkName};
+ghost use Rattle.hr_base.specs.Records.{IsSeq};
 ghost use Rattle.gc_event.specs.Events.{IsEvent};
 
 use bytes::Bytes;
@@ -79,9 +82,27 @@ fn value_of(alloc: Global, text: &str) -> Result<Vec<u8>, Fail> {
 }
 
 /// Whether a record or a file may stand in a chunk of the name.
-fn is_name(name: ChunkName) -> bool {
+fn is_name(name: ChunkName) -> bool
+    ensures { result ≡ true → IsChunkName name }
+{
     let number = name.number.0;
     name.partition.0 < MAX_PARTITIONS && 1 <= number && number < CHUNK_NO_END
+}
+
+/// That a record may be told: its number, the lengths of its key and of its value, and its chunk.
+fn check_bounds(seq: u64, key: usize, value: usize, chunk: ChunkName) -> Result<(), Fail>
+    ensures { OnOk result (IsSeq seq × (key ≤ MAX_KEY_LEN) × (value ≤ MAX_VALUE_LEN) × IsChunkName chunk) }
+{
+    if seq < 1 || SEQ_END <= seq {
+        return Err("no number".into());
+    }
+    if MAX_KEY_LEN < key || MAX_VALUE_LEN < value {
+        return Err("too long".into());
+    }
+    if !is_name(chunk) {
+        return Err("no chunk".into());
+    }
+    Ok(())
 }
 
 /// The event that tells a record in a chunk.
@@ -90,10 +111,9 @@ pub fn event_of(alloc: Global, fact: Fact<'_>, chunk: ChunkName) -> Result<Event
 {
     let key = Bytes::copy_from_slice(alloc, fact.key.as_bytes())?;
     let value = Bytes::from_vec(value_of(alloc, fact.value)?)?;
+    check_bounds(fact.seq, key.len(), value.len(), chunk)?;
     let (prefix, class) = (fact.prefix, class_of(chunk.kind));
-    let numbered = 1 <= fact.seq && fact.seq < SEQ_END;
-    let fits = key.len() <= MAX_KEY_LEN && value.len() <= MAX_VALUE_LEN;
-    if !numbered || !fits || !is_name(chunk) || class != fact.class {
+    if class != fact.class {
         return Err("no such event".into());
     }
     let seq = Seq(fact.seq);

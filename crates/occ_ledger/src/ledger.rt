@@ -112,7 +112,8 @@ impl Ledger {
     /// How many tombstones and prefix tombstones were live before a `forget` and not after it, since this was last asked; the
     /// last `u64` where there are more.
     pub fn lapsed(&mut self) -> u64
-        ensures { (result ≡ lapsed_in self.old) × (lapsed_in self.new ≡ 0) }
+        ensures number { (result ≡ lapsed_in self.old) × (lapsed_in self.new ≡ 0) }
+        ensures same { (book self.new ≡ book self.old) × (before self.new ≡ before self.old) }
     {
         mem::replace(&mut self.lapsed, 0)
     }
