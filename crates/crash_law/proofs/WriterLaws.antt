@@ -30,7 +30,7 @@ use Rattle.crash_law.proofs.GrowthLaws.{holds_more, holds_torn, holds_lost, hold
 
 -- ---- lists
 
-Rising-push : (low n : ℕ) (rs : List Record) (r : Record) → Rising low rs → All (λ x. seq_of x < n) rs → low ≤ n → seq_of r ≡ n → Rising low (rs ++ r ∷ [])
+pub Rising-push : (low n : ℕ) (rs : List Record) (r : Record) → Rising low rs → All (λ x. seq_of x < n) rs → low ≤ n → seq_of r ≡ n → Rising low (rs ++ r ∷ [])
 Rising-push low n [] r h below fits is = (omega (arith, is, fits), tt)
 Rising-push low n (x ∷ xs) r h below fits is =
     let first = All-head (λ y. seq_of y < n) x xs below in
@@ -46,13 +46,13 @@ All-behind : (P : Record → Type 0) (xs ys : List Record) → All P (xs ++ ys) 
 All-behind P [] ys h = h
 All-behind P (x ∷ xs) ys h = All-behind P xs ys (All-tail P x (xs ++ ys) h)
 
-records_of-append : (xs ys : List Placed) → records_of (xs ++ ys) ≡ records_of xs ++ records_of ys
+pub records_of-append : (xs ys : List Placed) → records_of (xs ++ ys) ≡ records_of xs ++ records_of ys
 records_of-append xs ys = map-append (λ (x : Placed). x.content) xs ys
 
-commands_of-append : (xs ys : List Placed) → commands_of (records_of (xs ++ ys)) ≡ commands_of (records_of xs) ++ commands_of (records_of ys)
+pub commands_of-append : (xs ys : List Placed) → commands_of (records_of (xs ++ ys)) ≡ commands_of (records_of xs) ++ commands_of (records_of ys)
 commands_of-append xs ys = ap commands_of (records_of-append xs ys) ∙ map-append command_of (records_of xs) (records_of ys)
 
-maps_after_all-push : (cs : List Command) (c : Command) (m : Entries) → maps_after_all (cs ++ c ∷ []) m ≡ maps_after c (maps_after_all cs m)
+pub maps_after_all-push : (cs : List Command) (c : Command) (m : Entries) → maps_after_all (cs ++ c ∷ []) m ≡ maps_after c (maps_after_all cs m)
 maps_after_all-push [] c m = refl
 maps_after_all-push (x ∷ xs) c m = maps_after_all-push xs c (maps_after x m)
 
@@ -235,7 +235,7 @@ own_by : (w : Written) (b : WriterStart) (a : Account) → StandsFor w b a → (
 own_by w b a h name of (inl takes) = h.own name takes
 own_by w b a h name of (inr none) = not_found_by (b.found name) (w.files name) _ _ _ (h.holds.at name of) none
 
-written_tail : (b : Bool) (cs : List Command) (c : Command) → b ≡ true → cs ++ c ∷ [] ≡ (if b then cs ++ c ∷ [] else cs)
+pub written_tail : (b : Bool) (cs : List Command) (c : Command) → b ≡ true → cs ++ c ∷ [] ≡ (if b then cs ++ c ∷ [] else cs)
 written_tail true cs c e = refl
 written_tail false cs c e = cc
 
@@ -320,7 +320,7 @@ module _ (w t : Written) (b : WriterStart) (a : Account) (h : StandsFor w b a) (
       (holds_new w.partition b.found w.files w.gone h.durable w.records name (holds_all w b a h whole) creates.of
       (not_found_by (b.found name) (w.files name) _ _ _ (h.holds.at name creates.of) creates.none) t.files creates.none creates.may creates.others)))
 
-unwritten_tail : (b : Bool) (cs : List Command) (c : Command) → b ≡ false → cs ≡ (if b then cs ++ c ∷ [] else cs)
+pub unwritten_tail : (b : Bool) (cs : List Command) (c : Command) → b ≡ false → cs ≡ (if b then cs ++ c ∷ [] else cs)
 unwritten_tail true cs c e = cc
 unwritten_tail false cs c e = refl
 
@@ -425,7 +425,7 @@ whole_by files x None (Some file) rs there valid has whole = record {
 }
 
 -- of files that have all records whole
-whole_in : (p : ℕ) (found : Image) (files : Files) (records : List Placed) (x : Placed) → HoldsWhole p found files records → Contains records x → IsWholeIn files x
+pub whole_in : (p : ℕ) (found : Image) (files : Files) (records : List Placed) (x : Placed) → HoldsWhole p found files records → Contains records x → IsWholeIn files x
 whole_in p found files records x whole has =
     whole_by files x (found x.chunk) (files x.chunk) (in_chunk x.chunk records) refl
     (All-from_recursion (IsOfClass (class_of_kind x.chunk.kind)) (in_chunk x.chunk records) (in_chunk_valid p x.chunk records (recursion_from_All (IsPlaced p) records whole.placed)))

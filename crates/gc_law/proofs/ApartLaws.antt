@@ -19,13 +19,13 @@ none_by (Some f) h = absurd (h f refl)
 
 module _ (w : Written) (heard unheard : List NotedEvent) (a : Account) (c : Gathered) (first : ℕ) (told : Tells w (heard ++ unheard) a) (h : KeepNames w c heard unheard first) where
   -- a sealed chunk has no file of the writer's
-  given_by : (name : ChunkName) (f : FileState) (s : Option FileState) (own : Option FileState) (noted since : List Record) → s ≡ Some f → IsWritersAt s own noted since → own ≡ None
-  given_by name f None own noted since e x = absurd (none_some f e)
-  given_by name f (Some g) own noted since e x = x.0
+  given_by : (name : ChunkName) (f : FileState) (s : Option FileState) (own : Option FileState) (noted since lost : List Record) → s ≡ Some f → IsWritersAt s own noted since lost → own ≡ None
+  given_by name f None own noted since lost e x = absurd (none_some f e)
+  given_by name f (Some g) own noted since lost e x = x.0
 
   sealed_heard : (name : ChunkName) (f : FileState) → name.partition.0 ≡ w.partition → seal_of heard name ≡ Some f → (w.files name ≡ None) × (seal_of unheard name ≡ None)
   sealed_heard name f of e = (
-    given_by name f (seal_of (heard ++ unheard) name) (w.files name) _ _ (seal_of-append heard unheard name ∙ ap (λ (x : Option FileState). either_file x (seal_of unheard name)) e) (told.at name of),
+    given_by name f (seal_of (heard ++ unheard) name) (w.files name) _ _ _ (seal_of-append heard unheard name ∙ ap (λ (x : Option FileState). either_file x (seal_of unheard name)) e) (told.at name of),
     (closed_behind heard unheard name f told.telling.last e).none_sealed,
   )
 

@@ -11,3 +11,6 @@ pub mod ReadLaws
 pub mod ApartLaws
 pub mod CopyLaws
 pub mod SmallStoreLaws
+pub mod NotingLaws
+pub mod SyncingLaws
+pub mod LeastLaws

@@ -17,7 +17,8 @@ use Rattle.crash_law.specs.Accounts.{Account}
 use Rattle.crash_law.specs.Chunks.{LeavesFront}
 use Rattle.crash_law.specs.Crashes.{IsImageOfPart}
 use Rattle.crash_law.specs.Numbered.{IsIn}
-use Rattle.crash_law.specs.Placed.{in_chunk, IsPlaced, IsOwn}
+use Rattle.crash_law.specs.Placed.{in_chunk, IsPlaced}
+use Rattle.crash_law.specs.Growth.{IsOwnBut}
 use Rattle.crash_law.specs.Restarts.{Fact}
 use Rattle.crash_law.specs.Writers.{Written}
 use Rattle.crash_law.proofs.ChunkLaws.{leaves_front}
@@ -83,18 +84,18 @@ whole_kept file bytes durable keeps =
 
 -- ---- the writer's files
 
-writers_some : (s file : Option FileState) (f : FileState) (noted since : List Record) → IsWritersAt s file noted since → file ≡ Some f → (s ≡ None) × IsOwn (Some f) noted since
-writers_some None file f noted since h e = (refl, subst (λ (x : Option FileState). IsOwn x noted since) e h)
-writers_some (Some g) file f noted since h e = absurd (some_none f (sym e ∙ h.0))
+pub writers_some : (s file : Option FileState) (f : FileState) (noted since lost : List Record) → IsWritersAt s file noted since lost → file ≡ Some f → (s ≡ None) × IsOwnBut (Some f) noted since lost
+writers_some None file f noted since lost h e = (refl, subst (λ (x : Option FileState). IsOwnBut x noted since lost) e h)
+writers_some (Some g) file f noted since lost h e = absurd (some_none f (sym e ∙ h.0))
 
-writers_sealed : (s file : Option FileState) (g : FileState) (noted since : List Record) → IsWritersAt s file noted since → s ≡ Some g → since ≡ []
-writers_sealed None file g noted since h e = absurd (some_none g (sym e))
-writers_sealed (Some x) file g noted since h e = h.1
+writers_sealed : (s file : Option FileState) (g : FileState) (noted since lost : List Record) → IsWritersAt s file noted since lost → s ≡ Some g → since ≡ []
+writers_sealed None file g noted since lost h e = absurd (some_none g (sym e))
+writers_sealed (Some x) file g noted since lost h e = h.1
 
-writers_none : (s file : Option FileState) (noted since : List Record) → IsWritersAt s file noted since → s ≡ None → file ≡ None → noted ≡ []
-writers_none None None noted since h e f = h
-writers_none None (Some g) noted since h e f = absurd (some_none g f)
-writers_none (Some g) file noted since h e f = absurd (some_none g e)
+writers_none : (s file : Option FileState) (noted since lost : List Record) → IsWritersAt s file noted since lost → s ≡ None → file ≡ None → noted ≡ []
+writers_none None None noted since lost h e f = h.0
+writers_none None (Some g) noted since lost h e f = absurd (some_none g f)
+writers_none (Some g) file noted since lost h e f = absurd (some_none g e)
 
 left_none : (x y : Option FileState) → either_file x y ≡ None → x ≡ None
 left_none None y e = refl
@@ -180,6 +181,7 @@ module _ (w : Written) (heard unheard : List NotedEvent) (a : Account) (c : Gath
     pub since : (r : Record) → IsIn r (take count (in_chunk name w.records)) → IsIn r recs
     pub own : (r : Record) → IsOneOf (Own r name) (notes (heard ++ unheard)) → seal_of heard name ≡ None → IsIn r recs
     pub safe : (r : Record) → IsSafeAt c.files name r → IsIn r recs
+    pub absent : w.files name ≡ None → count ≡ 0
 
   abbrev pub Left : ChunkName → Type 0
   Left name = (count : ℕ) × (recs : List Record) × LeftAt name count recs
@@ -189,7 +191,7 @@ module _ (w : Written) (heard unheard : List NotedEvent) (a : Account) (c : Gath
     no_own : w.files name ≡ None → seal_of unheard name ≡ None → (r : Record) → IsOneOf (Own r name) (notes (heard ++ unheard)) → seal_of heard name ≡ None → ⊥
     no_own none unsealed r i e =
         let nothing : in_chunk name (placed_of (notes (heard ++ unheard))) ≡ [] =
-        writers_none (seal_of (heard ++ unheard) name) (w.files name) _ _ (told.at name of) (unsealed_both name e unsealed) none in
+        writers_none (seal_of (heard ++ unheard) name) (w.files name) _ _ _ (told.at name of) (unsealed_both name e unsealed) none in
         subst (λ (rs : List Record). IsIn r rs) nothing (placed_in_chunk (notes (heard ++ unheard)) name r i)
 
     -- nothing is there
@@ -203,6 +205,7 @@ module _ (w : Written) (heard unheard : List NotedEvent) (a : Account) (c : Gath
         since = λ r i. i;
         own = λ r i e. absurd (no_own none unsealed r i e);
         safe = λ r s. absurd (unsafe r s);
+        absent = λ e. refl;
       },
     )
 
@@ -222,6 +225,7 @@ module _ (w : Written) (heard unheard : List NotedEvent) (a : Account) (c : Gath
             since = λ r i. absurd i;
             own = λ r i e. absurd (no_own none unsealed r i e);
             safe = λ r s. safe_left image c.files name r (take left.count file.records) f bytes left.rest (same r s) keeps left.split s;
+            absent = λ e. refl;
           },
         )
 
@@ -248,7 +252,7 @@ module _ (w : Written) (heard unheard : List NotedEvent) (a : Account) (c : Gath
         let file = told.telling.seals name f (sealed_all name f e) in
         let split : Splits (class_of_kind name.kind) bytes file.records file.rest =
         subst (λ (b : List ℕ). Splits (class_of_kind name.kind) b file.records file.rest) (sym (whole_kept f bytes file.durable may)) file.split in
-        let empty : in_chunk name w.records ≡ [] = writers_sealed (seal_of (heard ++ unheard) name) (w.files name) f _ _ (told.at name of) (sealed_all name f e) in (
+        let empty : in_chunk name w.records ≡ [] = writers_sealed (seal_of (heard ++ unheard) name) (w.files name) f _ _ _ (told.at name of) (sealed_all name f e) in (
           0,
           file.records,
           record {
@@ -259,6 +263,7 @@ module _ (w : Written) (heard unheard : List NotedEvent) (a : Account) (c : Gath
                 let w = file.all (Own r name) i refl in
                 subst (λ (x : Record). IsIn x file.records) (file.content w.0 r name w.1 i (sym (ap (λ (id : Identity). id.seq) w.2))) w.1;
             safe = λ r s. absurd (some_none f (sym e ∙ (apart name s.file of s.there).1));
+            absent = λ e. refl;
           },
         )
       where
@@ -288,7 +293,7 @@ module _ (w : Written) (heard unheard : List NotedEvent) (a : Account) (c : Gath
     by_own : (file : Option FileState) (left : Option (List ℕ)) → w.files name ≡ file → image name ≡ left → MayLeave (either_file file (either_file (seal_of unheard name) (c.files name))) (c.gone name) left → Left name
     by_own None left e there may = by_sealed (seal_of unheard name) left e refl there may
     by_own (Some f) None e there may =
-        let at = writers_some (seal_of (heard ++ unheard) name) (w.files name) f _ _ (told.at name of) e in
+        let at = writers_some (seal_of (heard ++ unheard) name) (w.files name) f _ _ _ (told.at name of) e in
         let empty : in_chunk name (placed_of (notes (heard ++ unheard))) ≡ [] = elim at.1.1.1.named [ inl none ↦ none | inr named ↦ absurd (true≢false (sym named ∙ may)) ] in (
           0,
           [],
@@ -298,10 +303,11 @@ module _ (w : Written) (heard unheard : List NotedEvent) (a : Account) (c : Gath
             since = λ r i. i;
             own = λ r i _. subst (λ (rs : List Record). IsIn r rs) empty (placed_in_chunk (notes (heard ++ unheard)) name r i);
             safe = λ r s. absurd (some_none f (sym e ∙ (apart name s.file of s.there).0));
+            absent = λ none. absurd (some_none f (sym e ∙ none));
           },
         )
     by_own (Some f) (Some bytes) e there may =
-        let at = writers_some (seal_of (heard ++ unheard) name) (w.files name) f _ _ (told.at name of) e in
+        let at = writers_some (seal_of (heard ++ unheard) name) (w.files name) f _ _ _ (told.at name of) e in
         let left : LeavesFront (class_of_kind name.kind) (in_chunk name (placed_of (notes (heard ++ unheard)))) (in_chunk name w.records) bytes =
         leaves_front (class_of_kind name.kind) f (in_chunk name (placed_of (notes (heard ++ unheard)))) (in_chunk name w.records) at.1.1.0 bytes
         (All-from_recursion (IsOfClass (class_of_kind name.kind)) _ of_chunk) at.1.1.1 may in (
@@ -316,6 +322,7 @@ module _ (w : Written) (heard unheard : List NotedEvent) (a : Account) (c : Gath
             since = λ r i. in_right (in_chunk name (placed_of (notes (heard ++ unheard)))) (take left.count (in_chunk name w.records)) r i;
             own = λ r i _. in_left (in_chunk name (placed_of (notes (heard ++ unheard)))) (take left.count (in_chunk name w.records)) r (placed_in_chunk (notes (heard ++ unheard)) name r i);
             safe = λ r s. absurd (some_none f (sym e ∙ (apart name s.file of s.there).0));
+            absent = λ none. absurd (some_none f (sym e ∙ none));
           },
         )
 

@@ -1,11 +1,11 @@
 -- What a restart notes is a list that a partition may note, and it tells the maps.
-use Rattle.std.specs.Prelude.{◌≡◌, ◌≢◌, ℕ, ◌≤◌, Bool, true, false, cond, if◌then◌else◌, List, [], ◌∷◌, ◌++◌, length, All, Option, Some, None, IsSome, refl}
+use Rattle.std.specs.Prelude.{◌≡◌, ◌≢◌, ℕ, ◌<◌, ◌≤◌, Bool, true, false, cond, if◌then◌else◌, List, [], ◌∷◌, ◌++◌, length, All, Option, Some, None, IsSome, refl}
 use Rattle.std.proofs.Common.{sym, ◌∙◌, ap, subst, inl, inr, arith, true≢false}
 use Rattle.std.specs.List.{AllByRecursion}
 use Rattle.std.specs.FinMap as finmap
 use Rattle.std.specs.Option.{option_map}
 use Rattle.std.proofs.lemmas.List.{append-nil}
-use Rattle.std.proofs.lemmas.List.Elements.{All-from_recursion, recursion_from_All}
+use Rattle.std.proofs.lemmas.List.Elements.{All-nil, All-from_recursion, recursion_from_All}
 use Rattle.hr_base.specs.declared.name.ChunkName.{ChunkName}
 use Rattle.hr_base.specs.Entries.{Key, State}
 use Rattle.hr_base.specs.NameTests.{is_name}
@@ -193,9 +193,10 @@ none_of_chunk (Own content chunk ∷ ns) name h = skip (is_name name chunk) refl
   skip false e = refl
 none_of_chunk (Dead id chunk ∷ ns) name h = none_of_chunk ns name (λ n i. h n (inr i))
 
-pub opened_tells : (w : Written) (es : List NotedEvent) (b : WriterStart) → Opens w.partition es b → HasDoneNothing w → Tells w es (fresh_account b.maps)
+pub opened_tells : (w : Written) (es : List NotedEvent) (b : WriterStart) → Opens w.partition es b → HasDoneNothing w b → Tells w es (fresh_account b.maps)
 opened_tells w es b opens nothing = record {
   telling = opens.telling;
+  own_maps = sym nothing.maps;
   durable = opens.content;
   kept = [];
   lost = [];
@@ -206,18 +207,20 @@ opened_tells w es b opens nothing = record {
   low = b.first;
   below = opens.below;
   since = subst (λ (xs : List Placed). Rising b.first (records_of xs)) (sym nothing.records) tt;
+  from = omega (arith, nothing.next);
+  below_next = subst (λ (xs : List Placed). All (λ r. seq_of r < w.next) (records_of xs)) (sym nothing.records) (All-nil (λ r. seq_of r < w.next));
   placed = subst (λ (xs : List Placed). All (IsPlaced w.partition) (placed_of (notes es) ++ xs)) (sym nothing.records)
       (subst (All (IsPlaced w.partition)) (sym (append-nil (placed_of (notes es)))) opens.placed);
   dead = λ id chunk i. opens.sealed (Dead id chunk) i;
   partition = λ name file e. absurd (none_some file (sym (nothing.files name) ∙ e));
-  at = λ name of. subst (λ (xs : List Placed). IsWritersAt (seal_of es name) (w.files name) (in_chunk name (placed_of (notes es))) (in_chunk name xs)) (sym nothing.records)
-      (subst (λ (f : Option FileState). IsWritersAt (seal_of es name) f (in_chunk name (placed_of (notes es))) []) (sym (nothing.files name)) (by_seal name (seal_of es name) refl));
+  at = λ name of. subst (λ (xs : List Placed). IsWritersAt (seal_of es name) (w.files name) (in_chunk name (placed_of (notes es))) (in_chunk name xs) []) (sym nothing.records)
+      (subst (λ (f : Option FileState). IsWritersAt (seal_of es name) f (in_chunk name (placed_of (notes es))) [] []) (sym (nothing.files name)) (by_seal name (seal_of es name) refl));
   none_gone = nothing.none_gone;
 } where
   sealed_by : (s : Option FileState) → s ≡ None → IsSome s → ⊥
   sealed_by None e h = absurd (true≢false (sym h))
   sealed_by (Some f) e h = none_some f (sym e)
 
-  by_seal : (name : ChunkName) (s : Option FileState) → seal_of es name ≡ s → IsWritersAt s None (in_chunk name (placed_of (notes es))) []
+  by_seal : (name : ChunkName) (s : Option FileState) → seal_of es name ≡ s → IsWritersAt s None (in_chunk name (placed_of (notes es))) [] []
   by_seal name (Some f) e = (refl, refl)
-  by_seal name None e = none_of_chunk (notes es) name (λ n i same. sealed_by (seal_of es (chunk_of n)) (ap (seal_of es) same ∙ e) (opens.sealed n i))
+  by_seal name None e = (none_of_chunk (notes es) name (λ n i same. sealed_by (seal_of es (chunk_of n)) (ap (seal_of es) same ∙ e) (opens.sealed n i)), refl)

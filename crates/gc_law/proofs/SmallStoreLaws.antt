@@ -1,5 +1,5 @@
 -- A small store has the facts of both sides.
-use Rattle.std.specs.Prelude.{◌≡◌, ◌⊎◌, ◌≤◌, Bool, true, false, cond, [], ◌∷◌, length, Some, None, refl}
+use Rattle.std.specs.Prelude.{◌≡◌, ◌⊎◌, ◌<◌, ◌≤◌, Bool, true, false, cond, [], ◌∷◌, length, Some, None, refl}
 use Rattle.std.proofs.Common.{sym, ◌∙◌, ap, subst, inl, inr, arith}
 use Rattle.std.specs.FinMap as map
 use Rattle.std.proofs.lemmas.List.Elements.{All-from_recursion}
@@ -13,6 +13,7 @@ use Rattle.hr_base.specs.NameTests.{is_name}
 use Rattle.hr_base.proofs.NameTestLaws.{is_name-true}
 use Rattle.dir_files.specs.Files.{FileState}
 use Rattle.record_format.specs.declared.record.Record.{Record}
+use Rattle.record_format.specs.Spelling.{seq_of}
 use Rattle.record_format.specs.Splits.{Splits, IsOfClass}
 use Rattle.record_format.proofs.SplitLaws.{whole_spellings_split, nothing_is_torn}
 use Rattle.crash_law.specs.Commands.{command_of}
@@ -103,11 +104,11 @@ apart_names : (name : ChunkName) → name ≡ chunk V 1 → name ≡ chunk V 2 �
 apart_names name e f = absurd (omega (arith, ap (λ (n : ChunkName). n.number.0) (sym e ∙ f)))
 
 at_by : (name : ChunkName) (a b : Bool) → is_name name (chunk V 1) ≡ a → is_name name (chunk V 2) ≡ b
-    → IsWritersAt (cond a (Some durable_file) None) (cond b (Some open_file) None) (cond a (put_a 1 ∷ []) []) (cond b (put_b 2 ∷ []) [])
+    → IsWritersAt (cond a (Some durable_file) None) (cond b (Some open_file) None) (cond a (put_a 1 ∷ []) []) (cond b (put_b 2 ∷ []) []) []
 at_by name true true e f = absurd (apart_names name (is_name-true name (chunk V 1) e) (is_name-true name (chunk V 2) f))
 at_by name true false e f = (refl, refl)
-at_by name false true e f = (omega arith, ([], record { bytes = refl; front = omega arith; named = inl refl }))
-at_by name false false e f = refl
+at_by name false true e f = (omega arith, ([], record { bytes = refl; front = omega arith; named = inl refl }, omega arith))
+at_by name false false e f = (refl, refl)
 
 one_file : (test : Bool) (file other : FileState) → cond test (Some file) None ≡ Some other → test ≡ true
 one_file true file other e = refl
@@ -127,6 +128,7 @@ not_dead id c i = elim i [ inl e ↦ never e | inr more ↦ absurd more ] where
 pub small_tells : Tells writer events account
 small_tells = record {
   telling = small_telling;
+  own_maps = refl;
   durable = durable_by;
   kept = record_since ∷ [];
   lost = [];
@@ -137,6 +139,8 @@ small_tells = record {
   low = 2;
   below = λ n i. elim i [ inl e ↦ omega (arith, ap number_of e) | inr more ↦ absurd more ];
   since = (omega arith, tt);
+  from = omega arith;
+  below_next = All-from_recursion (λ (r : Record). seq_of r < writer.next) (put_b 2 ∷ []) (omega arith, tt);
   placed = All-from_recursion (IsPlaced 0) (record { content = put_a 1; chunk = chunk V 1 } ∷ record_since ∷ [])
       (record { valid = valid_a; partition = refl }, (record { valid = valid_b; partition = refl }, tt));
   dead = λ id c i. absurd (not_dead id c i);

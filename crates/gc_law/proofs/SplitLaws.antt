@@ -17,7 +17,7 @@ use Rattle.crash_law.proofs.ChunkLaws.{leaves_front}
 use Rattle.gc_law.specs.CollectorFacts.{HoldsSplit}
 
 -- two cuts of one list
-cut : (a b x y : List ℕ) → a ++ x ≡ b ++ y → length a ≤ length b → (z : List ℕ) × (b ≡ a ++ z) × (x ≡ z ++ y)
+pub cut : (a b x y : List ℕ) → a ++ x ≡ b ++ y → length a ≤ length b → (z : List ℕ) × (b ≡ a ++ z) × (x ≡ z ++ y)
 cut [] b x y e less = (b, refl, e)
 cut (p ∷ a) [] x y e less = absurd (omega (arith, less))
 cut (p ∷ a) (q ∷ b) x y e less =

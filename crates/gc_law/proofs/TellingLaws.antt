@@ -20,7 +20,7 @@ use Rattle.gc_law.specs.Events.{NotedEvent, RecordEvent, SealEvent, notes, seal_
 use Rattle.dir_files.specs.Ports.{either_file}
 use Rattle.gc_law.proofs.EventLaws.{none_some, one_of_append, one_of_left, notes-append, seal_of-append, in_seal}
 
-or_none : (x y : Option FileState) → y ≡ None → either_file x y ≡ x
+pub or_none : (x y : Option FileState) → y ≡ None → either_file x y ≡ x
 or_none None y e = e
 or_none (Some g) y e = refl
 

@@ -1,19 +1,25 @@
 -- What every crash leaves of a writer's files and a collector's together: the partition recovers.
-use Rattle.std.specs.Prelude.{◌≡◌, ◌⊎◌, ℕ, ◌<◌, ◌≤◌, ◌==◌, ◌&&◌, ◌+◌, nat_lt, Bool, if◌then◌else◌, true, false, List, [], ◌∷◌, ◌++◌, map, Option, Some, None, refl}
-use Rattle.std.proofs.Common.{sym, ◌∙◌, ap, subst, inl, inr, arith, true≢false}
+use Rattle.std.specs.Prelude.{◌≡◌, ◌⊎◌, ℕ, ◌<◌, ◌≤◌, ◌==◌, ◌&&◌, ◌+◌, nat_lt, Bool, if◌then◌else◌, true, false, List, [], ◌∷◌, ◌++◌, length, take, map, All, Option, IfSome, Some, None, refl}
+use Rattle.std.proofs.Common.{sym, ◌∙◌, ap, subst, inl, inr, arith, append_assoc, true≢false}
 use Rattle.std.specs.List.{AllByRecursion}
 use Rattle.std.specs.FinMap as finmap
-use Rattle.std.proofs.lemmas.List.Elements.{recursion_from_All}
+use Rattle.std.proofs.lemmas.List.Elements.{All-from_recursion, recursion_from_All}
 use Rattle.std.proofs.lemmas.Bool.{cases_lt, eqb-true, eq-eqb, ltb-true, lt-ltb, and_parts, and_from}
 use Rattle.hr_base.specs.declared.name.ChunkName.{ChunkName}
 use Rattle.hr_base.specs.declared.name.Class.{Class}
 use Rattle.hr_base.specs.declared.name.Class.TheVariants.{Value as Values, Tomb as Tombs, Clear as Clears}
 use Rattle.hr_base.specs.Entries.{Key, State}
 use Rattle.dir_files.specs.Files.{FileState}
-use Rattle.dir_files.specs.Images.{Image}
+use Rattle.dir_files.specs.Images.{Image, KeepsFront, MayLeave}
+use Rattle.dir_files.specs.Ports.{either_file}
 use Rattle.record_format.specs.declared.record.Record.{Record}
 use Rattle.record_format.specs.declared.record.Record.TheVariants.{Value, Tomb, Clear}
-use Rattle.record_format.specs.Spelling.{seq_of, class_of_record}
+use Rattle.record_format.specs.Spelling.{seq_of, class_of_record, spelling, spellings}
+use Rattle.record_format.specs.Prefixes.{PrefixSplit}
+use Rattle.record_format.specs.Splits.{IsOfClass}
+use Rattle.record_format.proofs.SplitLaws.{a_prefix_splits, one_split}
+use Rattle.hr_base.specs.Names.{class_of_kind}
+use Rattle.crash_law.specs.Chunks.{HoldsRecords}
 use Rattle.crash_law.specs.Accounts.{Account}
 use Rattle.crash_law.specs.Commands.{command_of, touches, state_of, maps_after_all}
 use Rattle.crash_law.specs.Numbered.{Rising, IsIn, IsSublist, commands_of}
@@ -24,15 +30,16 @@ use Rattle.crash_law.specs.Writers.{Written}
 use Rattle.crash_law.proofs.KeptLaws.{kept_maps, kept_restart, kept_fits}
 use Rattle.std.proofs.lemmas.List.{append-nil, nil_from_length}
 use Rattle.crash_law.proofs.NumberedLaws.{Contains-from_in, in_from_Contains, rising_above, rising_one}
-use Rattle.crash_law.proofs.PlacedLaws.{select, select_part, select_among, in_select, in_records, in_front, in_append, in_left, in_right, in_chunk_partition}
+use Rattle.crash_law.proofs.PlacedLaws.{select, select_part, select_among, in_select, in_records, in_front, in_append, in_left, in_right, in_chunk_partition, in_chunk_valid}
 use Rattle.gc_event.specs.Notes.{IsOneOf, Identity, identity_of, concerns, Note, Own, Dead, id_of, chunk_of, number_of, is_own, top, IsTop, Occurrence, occurrence, NoSmallerValue}
 use Rattle.gc_law.specs.Events.{NotedEvent, notes, seal_of, placed_of, NotFalling}
-use Rattle.gc_law.specs.WriterFacts.{IsStateBy, Tells}
+use Rattle.gc_law.specs.WriterFacts.{IsStateBy, Tells, IsLeast, HasLeast}
+use Rattle.gc_law.proofs.SplitLaws.{cut}
 use Rattle.gc_law.specs.CollectorFacts.{Gathered, HasPlace, KeepsBy, KeepsTop, KeptBy}
 use Rattle.gc_law.specs.Both.{files_of_both, AreApart}
 use Rattle.gc_event.proofs.NoteLaws.{top_is, top_none, some_top}
-use Rattle.gc_law.proofs.EventLaws.{both, in_map, touches_is, one_of_left, one_of_right, falling_across, notes-append, closed_behind, placed_at, told_noted, one_told}
-use Rattle.gc_law.proofs.NameLaws.{LeftAt, IsKnown, left_at, heard_noted, noted_in}
+use Rattle.gc_law.proofs.EventLaws.{both, in_map, touches_is, one_of_left, one_of_right, falling_across, notes-append, closed_behind, in_chunk_placed, placed_at, told_noted, one_told}
+use Rattle.gc_law.proofs.NameLaws.{LeftAt, IsKnown, left_at, heard_noted, noted_in, writers_some}
 
 -- ---- the deciding record of a list
 
@@ -176,6 +183,21 @@ all_kept low (x ∷ xs) (y ∷ ys) h part all =
 
     missing : IsIn y ys → ⊥
     missing i = omega (arith, rising_above (seq_of y + 1) ys y h.1 i)
+
+-- ---- what lies below a front
+
+pub spellings-append : (xs ys : List Record) → spellings (xs ++ ys) ≡ spellings xs ++ spellings ys
+spellings-append [] ys = refl
+spellings-append (x ∷ xs) ys = ap (λ (bytes : List ℕ). spelling x ++ bytes) (spellings-append xs ys) ∙ sym (append_assoc (spelling x) (spellings xs) (spellings ys))
+
+-- bytes no longer than the first records' have just some of these
+few_kept : (class : Class) (file : FileState) (first since : List Record) (missing bytes : List ℕ) → All (IsOfClass class) first → HoldsRecords file first since missing → KeepsFront file bytes
+    → length bytes ≤ length (spellings first) → PrefixSplit class first bytes
+few_kept class file first since missing bytes valid holds left less =
+    let whole : bytes ++ (left.rest ++ missing) ≡ spellings first ++ spellings since =
+    sym (holds.bytes ∙ ap (λ (s : List ℕ). s ++ missing) left.prefix ∙ append_assoc bytes left.rest missing) ∙ spellings-append first since in
+    let w = cut bytes (spellings first) (left.rest ++ missing) (spellings since) whole less in
+    a_prefix_splits class first bytes w.0 valid w.1
 
 module _ (w : Written) (heard unheard : List NotedEvent) (a : Account) (c : Gathered) (told : Tells w (heard ++ unheard) a) (kept : KeptBy w.partition heard c)
     (apart : AreApart w unheard c) (image : Image) (is : IsImageOfPart w.partition (files_of_both w unheard c) c.gone image) where
@@ -488,3 +510,49 @@ module _ (w : Written) (heard unheard : List NotedEvent) (a : Account) (c : Gath
       subst (IsRestartOf (Fact image w.partition)) (sym (told.maps ∙ ap (λ (xs : List Placed). maps_after_all (commands_of (records_of xs)) a.durable) records))
       (subst (λ (rs : List Record). IsRestartOf (Fact image w.partition) (maps_after_all (commands_of rs) a.durable)) same
       (kept_restart (Fact image w.partition) a.durable (records_of w.records) union_kept))
+
+  -- ---- the least of the writer's files
+
+  of_first : (xs ys : List Placed) → AllByRecursion (IsPlaced w.partition) (xs ++ ys) → AllByRecursion (IsPlaced w.partition) xs
+  of_first [] ys h = tt
+  of_first (x ∷ xs) ys h = (h.0, of_first xs ys h.1)
+
+  abbrev noted_at : ChunkName → List Record
+  noted_at name = in_chunk name (placed_of (notes (heard ++ unheard)))
+
+  noted_valid : (name : ChunkName) → All (IsOfClass (class_of_kind name.kind)) (noted_at name)
+  noted_valid name =
+      All-from_recursion (IsOfClass (class_of_kind name.kind)) (noted_at name)
+      (in_chunk_valid w.partition name (placed_of (notes (heard ++ unheard)))
+      (of_first (placed_of (notes (heard ++ unheard))) w.records
+      (recursion_from_All (IsPlaced w.partition) (placed_of (notes (heard ++ unheard)) ++ w.records) told.placed)))
+
+  -- a fact in a file of the writer's is noted
+  least_noted : (r : Record) (f : Fact image w.partition r) (file : FileState) → w.files f.name ≡ Some file → file.front ≤ length (spellings (noted_at f.name)) → length f.bytes ≤ file.front → IsIn r (noted_at f.name)
+  least_noted r f file e least few =
+      let own = writers_some (seal_of (heard ++ unheard) f.name) (w.files f.name) file _ _ _ (told.at f.name f.partition) e in
+      let may : KeepsFront file f.bytes =
+      subst (λ (b : Option (List ℕ)). MayLeave (Some file) (c.gone f.name) b) f.there
+      (subst (λ (o : Option FileState). MayLeave (either_file o (either_file (seal_of unheard f.name) (c.files f.name))) (c.gone f.name) (image f.name)) e (is f.name f.partition)) in
+      let split = few_kept (class_of_kind f.name.kind) file (noted_at f.name) (in_chunk f.name w.records) own.1.1.0 f.bytes (noted_valid f.name) own.1.1.1 may (omega (arith, least, few)) in
+      in_front split.count (noted_at f.name) r
+      (subst (λ (rs : List Record). IsIn r rs)
+      (one_split (class_of_kind f.name.kind) f.bytes f.records (take split.count (noted_at f.name)) f.rest split.left f.whole split.split).0
+      (in_from_Contains r f.records f.has))
+
+  -- none of the records since is there
+  pub union_least : IsLeast w (heard ++ unheard) → HasLeast w image → (r : Record) → IsIn r (records_of w.records) → Fact image w.partition r → ⊥
+  union_least least has r i f = by_file (w.files f.name) refl where
+    from : told.low ≤ seq_of r
+    from = rising_above told.low (records_of w.records) r told.since i
+
+    by_file : (o : Option FileState) → w.files f.name ≡ o → ⊥
+    by_file None e = elim ((at f.name f.partition).known r (in_recs r f)) [
+      | inl known ↦ omega (arith, known_below r (f.name, in_recs r f, known), from)
+      | inr new ↦ subst (λ (n : ℕ). IsIn r (take n (in_chunk f.name w.records))) ((at f.name f.partition).absent e) new
+    ]
+    by_file (Some file) e =
+        let own =
+        in_chunk_placed (notes (heard ++ unheard)) f.name r
+        (least_noted r f file e (subst (λ (o : Option FileState). IfSome o (λ x. x.front ≤ length (spellings (noted_at f.name)))) e (least f.name)) (has f.name file f.bytes e f.there)) in
+        omega (arith, told.below (Own r f.name) own, from)

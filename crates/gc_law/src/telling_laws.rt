@@ -32,6 +32,6 @@ pub fn what_is_found_opens()
     ensures opens { (p : ℕ) (es : List NotedEvent) (b : WriterStart)
         → Base p b.found b.maps b.first → NotesFound p b.found es → Opens p es b }
     ensures tells { (w : Written) (es : List NotedEvent) (b : WriterStart)
-        → Base w.partition b.found b.maps b.first → NotesFound w.partition b.found es → HasDoneNothing w
+        → Base w.partition b.found b.maps b.first → NotesFound w.partition b.found es → HasDoneNothing w b
         → Tells w es (fresh_account b.maps) }
 {}

@@ -1,21 +1,14 @@
-//! Sessions with faults, by a table of texts.
+//! What the program does over a folder in memory. The rows and the scripts are played as `test_rows` says.
 
-use super::disk::{Disk, NEVER, Stop, Told};
-use super::expecting::{expect, expect_text};
-use super::words::{lines_of, name_of, number, pick_of, split};
-use hr_edges::{MemSink, MemSource};
-use std::alloc::Global;
+use crate::disk::MemDisk;
 use std::test::Fail;
+use test_rows::drawn::{crash_all, stop_all};
+use test_rows::expecting::expect;
+use test_rows::restarts::check_restarts;
+use test_rows::session_rows::play_rows;
+use test_rows::stops::{CLEARINGS, Session, check_sound};
 
-/// Rows, each with a name. A line of a row is one of these:
-///
-/// - `fails P C alone` or `fails P C on`: call `C` of port `P` fails, or all from there on; all files are durable,
-/// - `source C`, `sink C`: this read or write fails; `most N`: so many bytes are taken in a write; `room N`: and in all,
-/// - `play SCRIPT`, `dump`: the program runs, with one byte a read,
-/// - `prints STATUS TEXT`: what came of it,
-/// - `faults N`: how many calls of the folder failed,
-/// - `holds NAME LENGTH ..`: how long files are, or `-` where there is none,
-/// - `crash PICK`.
+/// Rows of sessions with faults. `session_rows` has their form.
 const TABLE: &str = "\
 = one byte a read and seven a write
 play 0 put 5 k1 v1;0 sync;0 get 5 k1;
@@ -197,133 +190,47 @@ prints 0 0 none;0 cleared 0;0 none;0 synced;
 faults 0
 ";
 
-/// How the source and the sink work: which call of each fails, how many bytes are taken in a write, and in all.
-#[derive(Clone, Copy)]
-struct Edges {
-    source: u64,
-    sink: u64,
-    most: usize,
-    room: usize,
-}
-
-const SOUND: Edges = Edges {
-    source: NEVER,
-    sink: NEVER,
-    most: 7,
-    room: 1_000,
-};
-
-/// What the lines of a row came to so far.
-#[derive(Drop)]
-struct Bench {
-    row: &'static str,
-    disk: Disk,
-    edges: Edges,
-    told: Option<Told>,
-    alloc: Global,
-}
-
-impl Bench {
-    /// At the head of a row.
-    fn at(alloc: Global, row: &'static str) -> Bench {
-        Bench {
-            row,
-            disk: Disk::empty(alloc),
-            edges: SOUND,
-            told: None,
-            alloc,
-        }
-    }
-
-    /// Plans that calls fail.
-    fn plan(&mut self, text: &str) -> Result<(), Fail> {
-        let mut words = text.split(' ');
-        let stop = Stop {
-            port: number(words.next().unwrap_or(""))?,
-            call: number(words.next().unwrap_or(""))?,
-            goes_on: words.next() == Some("on"),
-        };
-        self.disk = self.disk.copied(self.alloc, stop)?;
-        Ok(())
-    }
-
-    /// Runs the program.
-    fn run(&mut self, words: &str, script: &str) -> Result<(), Fail> {
-        let alloc = self.alloc;
-        let script = lines_of(alloc, script)?.as_bytes().to_vec(alloc)?;
-        let Edges {
-            source,
-            sink,
-            most,
-            room,
-        } = self.edges;
-        let input = MemSource::in_steps(script, vec![in alloc; source]?, 1);
-        let out = MemSink::in_steps(alloc, room, vec![in alloc; sink]?, most)?;
-        self.told = Some(self.disk.run_between(alloc, words, input, out)?);
-        Ok(())
-    }
-
-    /// Compares what a run came to.
-    fn expect_told(&self, text: &str) -> Result<(), Fail> {
-        let (status, printed) = split(text);
-        let printed = lines_of(self.alloc, printed)?;
-        let told = self.told.as_ref().ok_or("no run")?;
-        expect_text(told.printed(), printed.as_bytes(), self.row)?;
-        expect(u64::from(told.status()) == number(status)?, self.row)
-    }
-
-    /// Compares the lengths of files.
-    fn expect_lengths(&self, text: &str) -> Result<(), Fail> {
-        let mut words = text.split(' ');
-        while let Some(short) = words.next() {
-            let name = name_of(self.alloc, short)?;
-            let wanted = match words.next() {
-                Some("-") | None => None,
-                Some(length) => Some(number(length)? as usize),
-            };
-            let found = self.disk.bytes(name).map(|bytes| bytes.len());
-            expect(found == wanted, self.row)?;
-        }
-        Ok(())
-    }
-
-    /// Crashes the folder.
-    fn crash(&mut self, text: &str) -> Result<(), Fail> {
-        let pick = pick_of(text)?;
-        let disk = std::mem::replace(&mut self.disk, Disk::empty(self.alloc));
-        self.disk = disk.crash(pick);
-        Ok(())
-    }
-
-    /// Does what a line of a row says.
-    fn take(&mut self, line: &str) -> Result<(), Fail> {
-        let (verb, rest) = split(line);
-        match verb {
-            "fails" => self.plan(rest)?,
-            "source" => self.edges.source = number(rest)?,
-            "sink" => self.edges.sink = number(rest)?,
-            "most" => self.edges.most = number(rest)? as usize,
-            "room" => self.edges.room = number(rest)? as usize,
-            "play" => self.run("DIR play", rest)?,
-            "dump" => self.run("DIR dump", "")?,
-            "prints" => self.expect_told(rest)?,
-            "faults" => expect(self.disk.faults() == number(rest)?, self.row)?,
-            "holds" => self.expect_lengths(rest)?,
-            "crash" => self.crash(rest)?,
-            _ => return Err("no such line".into()),
-        }
-        Ok(())
-    }
+#[test]
+fn faults_are_told_by_the_table(rt: HostRuntime) -> Result<(), Fail> {
+    play_rows::<MemDisk>(rt.alloc(), TABLE)
 }
 
 #[test]
-fn faults_are_told_by_the_table(rt: HostRuntime) -> Result<(), Fail> {
-    let mut bench = Bench::at(rt.alloc(), "");
-    for line in TABLE.lines() {
-        match line.strip_prefix("= ") {
-            Some(row) => bench = Bench::at(rt.alloc(), row),
-            None => bench.take(line)?,
-        }
-    }
-    Ok(())
+fn drawn_scripts_survive_crashes(rt: HostRuntime) -> Result<(), Fail> {
+    crash_all::<MemDisk>(rt.alloc())
+}
+
+/// Two crashes, with a session between them that the disk stops.
+#[test]
+fn stopped_sessions_survive_crashes(rt: HostRuntime) -> Result<(), Fail> {
+    stop_all::<MemDisk>(rt.alloc())
+}
+
+/// Before a session over an empty folder the root makes its names durable, and lists them. The first writer makes a call
+/// for each of some twenty records, files and syncs.
+#[test]
+fn each_call_of_the_root_and_a_first_writer_may_fail(rt: HostRuntime) -> Result<(), Fail> {
+    let session = Session::new(rt.alloc())?;
+    check_sound::<MemDisk>(&session)?;
+    expect(session.check_calls::<MemDisk>(0)? == 2, "calls of the root")?;
+    expect(
+        session.check_calls::<MemDisk>(1)? > 20,
+        "calls of a first writer",
+    )
+}
+
+/// At least one call for each record of some 500.
+#[test]
+fn each_call_of_a_second_writer_may_fail(rt: HostRuntime) -> Result<(), Fail> {
+    let session = Session::new(rt.alloc())?;
+    let calls = session.check_calls::<MemDisk>(2)?;
+    expect(
+        calls > CLEARINGS.saturating_mul(2),
+        "calls of a second writer",
+    )
+}
+
+#[test]
+fn each_call_of_a_restart_may_fail(rt: HostRuntime) -> Result<(), Fail> {
+    check_restarts::<MemDisk>(rt.alloc())
 }

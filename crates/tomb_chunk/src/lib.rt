@@ -1,11 +1,7 @@
-//! Chunk files of tombstones and of prefix tombstones that are written: filling, full, and sealed. Each state is one of
-//! `value_chunk`, and each call means there what it means here.
+//! Chunk files of tombstones and of prefix tombstones that are written: filling, full, and sealed. The name of a chunk says
+//! its class, so each state is one of `value_chunk`, under a name of its own.
 #![tactic(auto)]
 
-mod filling;
-mod full;
-mod sealed;
-
-pub use filling::TombFilling;
-pub use full::{TombFull, TombNotSealed};
-pub use sealed::TombSealed;
+pub use value_chunk::{
+    Filling as TombFilling, Full as TombFull, NotSealed as TombNotSealed, Sealed as TombSealed,
+};

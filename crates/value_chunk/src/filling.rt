@@ -2,7 +2,6 @@
 
 ghost use Rattle.std.specs.Prelude.{◌≡◌, true, false, IfOk, IsOk, Some, length};
 ghost use Rattle.hr_base.specs.declared.limits.TheConstants.{MAX_CHUNK_LIMIT};
-ghost use Rattle.hr_base.specs.declared.name.Class.TheVariants.{Value};
 ghost use Rattle.hr_base.specs.Names.{IsChunkName, TellsNoOther, class_of_kind};
 ghost use Rattle.dir_files.specs.Faults.{is_fault};
 ghost use Rattle.dir_files.specs.PortCalls.{CountsCall, GivesFile, LeavesPort};
@@ -42,20 +41,8 @@ impl<F: Folder> Model for Filling<F> {
 }
 
 impl<F: Folder> Filling<F> {
-    /// Creates the file of a chunk of values.
+    /// Creates the file of a chunk, which takes records of the class that its name says.
     pub fn begin(port: &mut F, name: ChunkName) -> Result<Filling<F>, FolderRefusal>
-        requires class { class_of_kind name.kind ≡ Value }
-        requires valid { IsChunkName name }
-        requires free { F.tells ≡ true → IsFreeName (F.port port.old) name }
-        ensures begun { IfOk result (IsTold F.tells (begun name)) }
-        ensures port { F.tells ≡ true → BeginsAt result (F.port port.old) (F.port port.new) name }
-        ensures counts { CountsCall ⟦<F as Folder>⟧ (is_fault result) port.old port.new }
-    {
-        Filling::begin_of_any_class(port, name)
-    }
-
-    /// Creates the file of a chunk of any class. Chunks of tombstones are built on it.
-    pub fn begin_of_any_class(port: &mut F, name: ChunkName) -> Result<Filling<F>, FolderRefusal>
         requires valid { IsChunkName name }
         requires free { F.tells ≡ true → IsFreeName (F.port port.old) name }
         ensures begun { IfOk result (IsTold F.tells (begun name)) }
@@ -70,6 +57,13 @@ impl<F: Folder> Filling<F> {
             unsynced: false,
             torn: false,
         })
+    }
+
+    /// The chunk's name.
+    pub fn name(&self) -> ChunkName
+        ensures { result ≡ self.now.name }
+    {
+        self.name
     }
 
     /// The bytes of the records that were appended.
@@ -93,6 +87,7 @@ impl<F: Folder> Filling<F> {
         requires room { fits self.old.size (length bytes.now) MAX_CHUNK_LIMIT ≡ true }
         requires whole { self.old.torn ≡ false }
         ensures appended { Appends F.tells result self.old self.new bytes.now }
+        ensures sized { F.tells ≡ true → self.old.size ≡ length self.old.file.bytes }
         ensures port { LeavesPort ⟦<F as Folder>⟧ (is_fault result) port.old port.new }
     {
         let offset = self.size;

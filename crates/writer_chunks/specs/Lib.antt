@@ -1,4 +1,3 @@
-pub mod AnyChunks
 pub mod Lanes
 pub mod PortFits
 pub mod LaneCalls

@@ -6,27 +6,27 @@ ghost use Rattle.hr_base.specs.declared.limits.TheConstants.{MAX_CHUNK_LIMIT};
 ghost use Rattle.hr_base.specs.Names.{IsChunkName, class_of_kind};
 ghost use Rattle.dir_files.specs.Faults.{is_fault};
 ghost use Rattle.dir_files.specs.PortCalls.{CountsCall, LeavesPort};
-ghost use Rattle.dir_files.specs.Ports.{IsFreeName};
+ghost use Rattle.dir_files.specs.Files.{named_file, synced_file};
+ghost use Rattle.dir_files.specs.Ports.{Gives, IsFreeName};
 ghost use Rattle.value_chunk.specs.Chunks.{IsOneRecord};
 ghost use Rattle.value_chunk.specs.Calls.{BeginsAt, IsTold, marked};
 ghost use Rattle.writer_chunks.specs.Lanes.{empty_lane, chunks, IsLane, takes, seen};
 ghost use Rattle.writer_chunks.specs.PortFits.{FitsPort, LeavesOthers};
 ghost use Rattle.writer_chunks.specs.LaneCalls.{AppendsIn, AppendsToFile, Begins, BeginsFile, EachRises, GivesEach, GivesLane, IsSynced, LeavesFull, sealed_chunks, SettlesLane, SettlesPort, SyncsEach, SyncsLane};
 
-use crate::any_filling::AnyFilling;
-use crate::any_full::AnyFull;
 use dir_files::{Folder, FolderRefusal};
 use hr_base::{ChunkName, Class};
 use std::alloc::Global;
 use std::marker::Model;
+use value_chunk::{Filling, Full, NotSealed};
 
 /// The chunks of one class that a writer has in hand: full ones that wait for the next sync, and the one that takes
 /// records. It owns the handles of their files, so nobody else acts on them.
 pub struct Lane<F: Folder> {
     class: Class,
     /// The oldest first.
-    full: Vec<AnyFull<F>>,
-    taking: Option<AnyFilling<F>>,
+    full: Vec<Full<F>>,
+    taking: Option<Filling<F>>,
 }
 
 impl<F: Folder> Model for Lane<F> {
@@ -88,7 +88,7 @@ impl<F: Folder> Lane<F> {
         ensures counts { CountsCall ⟦<F as Folder>⟧ (is_fault result) port.old port.new }
     {
         self.full.reserve(1)?;
-        let chunk = AnyFilling::begin(port, name)?;
+        let chunk = Filling::begin(port, name)?;
         if let Some(before) = self.taking.replace(chunk) {
             push_within(&mut self.full, before.fill());
         }
@@ -166,7 +166,7 @@ impl<F: Folder> Lane<F> {
 }
 
 /// Adds a chunk behind the others, where there is room for it.
-fn push_within<F: Folder>(full: &mut Vec<AnyFull<F>>, chunk: AnyFull<F>)
+fn push_within<F: Folder>(full: &mut Vec<Full<F>>, chunk: Full<F>)
     requires { vec_len full.old < vec_capacity full.old }
     ensures { full.new.items ≡ full.old.items ++ chunk ∷ [] }
 {
@@ -177,7 +177,7 @@ fn push_within<F: Folder>(full: &mut Vec<AnyFull<F>>, chunk: AnyFull<F>)
 }
 
 /// Makes the bytes of each file durable, of one after another until the folder refuses one.
-fn sync_each<F: Folder>(full: &mut [AnyFull<F>], port: &mut F) -> Result<(), FolderRefusal>
+fn sync_each<F: Folder>(full: &mut [Full<F>], port: &mut F) -> Result<(), FolderRefusal>
     ensures synced { SyncsEach F.tells result full.old full.new }
     ensures idle { All (λ chunk. chunk.unsynced ≡ false) full.old
         → IsOk result × (full.new ≡ full.old) × (port.new ≡ port.old) }
@@ -191,7 +191,7 @@ fn sync_each<F: Folder>(full: &mut [AnyFull<F>], port: &mut F) -> Result<(), Fol
 
 /// Makes the bytes of the chunk's file durable, where there is a chunk.
 fn sync_taking<F: Folder>(
-    taking: &mut Option<AnyFilling<F>>,
+    taking: &mut Option<Filling<F>>,
     port: &mut F,
 ) -> Result<(), FolderRefusal>
     ensures synced { SyncsEach F.tells result (option_to_list taking.old) (option_to_list taking.new) }
@@ -206,7 +206,7 @@ fn sync_taking<F: Folder>(
 }
 
 /// Takes note that the name of the chunk's file is durable, where there is a chunk.
-fn mark_taking<F: Folder>(taking: &mut Option<AnyFilling<F>>, port: &F)
+fn mark_taking<F: Folder>(taking: &mut Option<Filling<F>>, port: &F)
     requires { F.tells ≡ true
         → All (λ chunk. (F.port port.now).fixed chunk.name ≡ true) (option_to_list taking.old) }
     ensures { AllZip (λ chunk after. IsTold F.tells (marked chunk) after)
@@ -217,9 +217,30 @@ fn mark_taking<F: Folder>(taking: &mut Option<AnyFilling<F>>, port: &F)
     }
 }
 
+/// Seals the chunk where its bytes and name are durable, and gives its file back in any case.
+fn seal_and_give<F: Folder>(chunk: Full<F>, port: &mut F) -> Result<(), FolderRefusal>
+    requires synced { chunk.unsynced ≡ false }
+    requires fixed { F.tells ≡ true → (F.port port.old).fixed chunk.name ≡ true }
+    ensures sealed { F.tells ≡ true → IsOk result }
+    ensures given { F.tells ≡ true
+        → Gives (F.port port.old) (F.port port.new) chunk.name (named_file (synced_file chunk.file)) }
+    ensures counts { CountsCall ⟦<F as Folder>⟧ (is_fault result) port.old port.new }
+{
+    match chunk.seal(port) {
+        Ok(sealed) => {
+            sealed.give(port);
+            Ok(())
+        }
+        Err(NotSealed { kept, why }) => {
+            kept.give(port);
+            Err(why)
+        }
+    }
+}
+
 /// Seals each chunk, the last one first, and gives its file back. Where the folder refuses one, those before it are
 /// left.
-fn seal_each<F: Folder>(full: &mut Vec<AnyFull<F>>, port: &mut F) -> Result<(), FolderRefusal>
+fn seal_each<F: Folder>(full: &mut Vec<Full<F>>, port: &mut F) -> Result<(), FolderRefusal>
     requires synced { All (λ chunk. IsSynced F.tells chunk) full.old.items }
     requires fixed { F.tells ≡ true → All (λ chunk. (F.port port.old).fixed chunk.name ≡ true) full.old.items }
     requires once { F.tells ≡ true → AllPairs (λ a b. a.name ≢ b.name) full.old.items }
@@ -229,13 +250,13 @@ fn seal_each<F: Folder>(full: &mut Vec<AnyFull<F>>, port: &mut F) -> Result<(), 
     ensures counts { CountsCall ⟦<F as Folder>⟧ (is_fault result) port.old port.new }
 {
     while let Some(chunk) = full.pop() {
-        chunk.seal_and_give(port)?;
+        seal_and_give(chunk, port)?;
     }
     Ok(())
 }
 
 /// Gives the file of each chunk back to the folder.
-fn give_each<F: Folder>(mut full: Vec<AnyFull<F>>, port: &mut F)
+fn give_each<F: Folder>(mut full: Vec<Full<F>>, port: &mut F)
     requires { F.tells ≡ true → AllPairs (λ a b. a.name ≢ b.name) full.items }
     ensures given { F.tells ≡ true → GivesEach (F.port port.old) (F.port port.new) full.items }
     ensures counts { CountsCall ⟦<F as Folder>⟧ false port.old port.new }
@@ -247,7 +268,7 @@ fn give_each<F: Folder>(mut full: Vec<AnyFull<F>>, port: &mut F)
 }
 
 /// Gives the chunk's file back to the folder, where there is a chunk.
-fn give_taking<F: Folder>(taking: Option<AnyFilling<F>>, port: &mut F)
+fn give_taking<F: Folder>(taking: Option<Filling<F>>, port: &mut F)
     ensures given { F.tells ≡ true → GivesEach (F.port port.old) (F.port port.new) (option_to_list taking) }
     ensures counts { CountsCall ⟦<F as Folder>⟧ false port.old port.new }
 {

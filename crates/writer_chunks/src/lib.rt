@@ -2,8 +2,6 @@
 //! records.
 #![tactic(auto)]
 
-mod any_filling;
-mod any_full;
 mod lane;
 pub mod laws;
 

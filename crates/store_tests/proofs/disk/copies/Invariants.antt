@@ -1,7 +1,0 @@
-use Rattle.std.proofs.Common.{All}
-use Rattle.hr_base.specs.Names.{IsChunkName}
-use Rattle.store_tests.proofs.disk.copies.Given as goal
-
--- the names so far are names of chunks
-abbrev pub invariant-loop-name : goal.invariant-loop-name
-invariant-loop-name l = All (λ file. IsChunkName file.0) l.files.items

@@ -1,7 +1,0 @@
-use Rattle.std.proofs.Common.{subst, sym}
-use Rattle.hr_base.specs.Entries.{KeepsLimits}
-use Rattle.partition_writer.proofs.LimitLaws.{empty_limits}
-use Rattle.store_tests.proofs.writers.begin.Goals as goal
-
-pub resume-requires-clause-lengths : goal.resume-requires-clause-lengths
-resume-requires-clause-lengths c = subst KeepsLimits (sym c.new-map.ensures.entries) empty_limits
