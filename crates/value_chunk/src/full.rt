@@ -1,14 +1,16 @@
 //! A chunk that takes no more records.
 
 ghost use Rattle.std.specs.Prelude.{◌≡◌, true, false, IsOk, MatchResult};
+ghost use Rattle.dir_files.specs.Files.{IsDurable};
 ghost use Rattle.dir_files.specs.Faults.{is_disk, is_fault};
 ghost use Rattle.dir_files.specs.PortCalls.{CountsCall, GivesFile, LeavesPort};
 ghost use Rattle.dir_files.specs.Ports.{can_be_fixed};
-ghost use Rattle.value_chunk.specs.Calls.{IsChunkKept, Seals, SealsAt, SyncsFile};
+ghost use Rattle.value_chunk.specs.Calls.{IsChunkKept, Marks, Seals, SealsAt, SyncsFile};
 
 use crate::filling::Filling;
 use crate::sealed::Sealed;
 use dir_files::{Folder, FolderRefusal};
+use hr_base::ChunkName;
 use std::marker::Model;
 
 /// A chunk that takes no more records, and waits for the sync that seals it.
@@ -34,6 +36,13 @@ pub struct NotSealed<F: Folder> {
 }
 
 impl<F: Folder> Full<F> {
+    /// The chunk's name.
+    pub fn name(&self) -> ChunkName
+        ensures { result ≡ self.now.name }
+    {
+        self.filling.name()
+    }
+
     /// Makes the file's bytes durable. It makes no call of the folder where no bytes are past the front.
     pub fn sync(&mut self, port: &mut F) -> Result<(), FolderRefusal>
         ensures synced { SyncsFile F.tells result self.old self.new }
@@ -41,6 +50,24 @@ impl<F: Folder> Full<F> {
         ensures port { LeavesPort ⟦<F as Folder>⟧ (is_fault result) port.old port.new }
     {
         self.filling.sync(port)
+    }
+
+    /// Takes note that the file's name is durable, where the port says so, and answers whether it is.
+    pub fn mark(&mut self, port: &F) -> bool
+        ensures fixed { F.tells ≡ true → result ≡ (F.port port.now).fixed self.old.name }
+        ensures marked { Marks F.tells result self.old self.new }
+    {
+        self.filling.mark(port)
+    }
+
+    /// The chunk as one that is sealed, where bytes and name are known to be durable. It makes no call of the folder.
+    pub fn sealed(self) -> Sealed<F>
+        requires synced { self.unsynced ≡ false }
+        requires durable { F.tells ≡ true → IsDurable self.file }
+        ensures { result ≡ self }
+    {
+        let Full { filling } = self;
+        Sealed { filling }
     }
 
     /// Makes the file's bytes and then its name durable. It makes no call of the folder that is not needed.

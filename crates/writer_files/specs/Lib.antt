@@ -1,3 +1,5 @@
+pub mod Hands
+pub mod HandCalls
 pub mod Stocks
 pub mod StockCalls
 pub mod StockViews

@@ -1,4 +1,4 @@
--- The files of a writer as contracts see them.
+-- A writer's files as contracts see them.
 use Rattle.dir_files.specs.declared.folder.Folder.{Ghosts as FolderGhosts}
 use Rattle.hr_base.specs.declared.name.Named.{Ghosts as NamedGhosts}
 use Rattle.writer_files.specs.declared.files.WriterFiles.{WriterFiles}
@@ -12,8 +12,7 @@ module _ {F File : Type 0} {g : FolderGhosts F File} {h : NamedGhosts File} wher
   abbrev pub stock : WriterFiles F File g h → Stock
   stock files = record {
     port = g.port files.port;
-    values = files.values;
-    tombs = files.tombs;
-    clears = files.clears;
+    taking = files.taking;
+    full = files.full.items;
     fresh = files.fresh;
   }
