@@ -1,6 +1,7 @@
 //! All chunks that a writer has in hand.
 
 ghost use Rattle.std.specs.Prelude.{◌≡◌, true};
+ghost use Rattle.writer_files.specs.HandProps.{stock_prop};
 ghost use Rattle.writer_files.specs.Stocks.{IsStock};
 
 use crate::full::{give_each, mark_each, place, sync_each};
@@ -20,7 +21,7 @@ pub struct WriterFiles<F: Folder> {
     full: VecDeque<Full<F>>,
     /// A file was created since the last directory sync, or may have been.
     fresh: bool,
-    ghost stocked: { F.tells ≡ true → IsStock (record { port = F.port port; taking = taking; full = full.items; fresh = fresh }) },
+    ghost stocked: { F.tells ≡ true → IsStock (record { port = F.port port; taking = taking; full = full.items; fresh = fresh }) } by { Prim.hlevel stock_prop },
 }
 
 impl<F: Folder> WriterFiles<F> {

@@ -1,0 +1,5 @@
+pub mod ListLaws
+pub mod HandLaws
+pub mod TakingLaws
+pub mod SyncLaws
+pub mod GiveLaws

@@ -1,0 +1,1 @@
+-- What each call makes of a stock and of its files.
