@@ -4,7 +4,7 @@ ghost use Rattle.std.specs.Prelude.{◌≡◌, true};
 ghost use Rattle.writer_files.specs.HandProps.{stock_prop};
 ghost use Rattle.writer_files.specs.Stocks.{IsStock};
 
-use crate::full::{give_each, mark_each, place, sync_each};
+use crate::full::{give_each, mark_full, place, sync_full};
 use crate::taking::Fillings;
 use dir_files::{Folder, FolderRefusal};
 use hr_base::{ChunkName, Class};
@@ -135,7 +135,8 @@ impl<F: Folder> WriterFiles<F> {
     pub fn sync(&mut self) -> Result<(), FolderRefusal>
         ensures durable { F.tells ≡ true → OnOk result (AllDurable (files_of (stock self.new))) }
         ensures synced { OnOk result (IsSynced (stock self.new)) }
-        ensures idle { IsSynced (stock self.old) → IsOk result × (self.new ≡ self.old) }
+        ensures idle { IsSynced (stock self.old) → IsOk result × (stock self.new ≡ stock self.old)
+            × (stock_port self.new ≡ stock_port self.old) }
         ensures kept { KeepsHands (stock self.old) (stock self.new) }
         ensures files { F.tells ≡ true → EachRises (files_of (stock self.old)) (files_of (stock self.new)) }
         ensures fits { F.tells ≡ true → (name : ChunkName) (file : FileState)
@@ -156,14 +157,14 @@ impl<F: Folder> WriterFiles<F> {
         ensures synced { OnOk result (All (λ chunk. chunk.unsynced ≡ false) (in_hand (stock self.new))) }
         ensures fresh { (stock self.new).fresh ≡ (stock self.old).fresh }
         ensures idle { All (λ chunk. chunk.unsynced ≡ false) (in_hand (stock self.old))
-            → IsOk result × (self.new ≡ self.old) }
+            → IsOk result × (stock self.new ≡ stock self.old) × (stock_port self.new ≡ stock_port self.old) }
         ensures kept { KeepsHands (stock self.old) (stock self.new) }
         ensures files { F.tells ≡ true → EachRises (files_of (stock self.old)) (files_of (stock self.new)) }
         ensures lends { F.tells ≡ true → (others : Names) → LendsBut others (stock self.old)
             → LendsBut others (stock self.new) }
         ensures counts { CountsCall ⟦<F as Folder>⟧ (is_fault result) (stock_port self.old) (stock_port self.new) }
     {
-        sync_each(self.full.make_contiguous(), &mut self.port)?;
+        sync_full(&mut self.full, &mut self.port)?;
         self.taking.sync(&mut self.port)
     }
 
@@ -179,7 +180,7 @@ impl<F: Folder> WriterFiles<F> {
         ensures counts { CountsCall ⟦<F as Folder>⟧ (is_fault result) (stock_port self.old) (stock_port self.new) }
     {
         self.port.sync_names()?;
-        mark_each(self.full.make_contiguous(), &self.port);
+        mark_full(&mut self.full, &self.port);
         self.taking.mark(&self.port);
         self.fresh = false;
         Ok(())

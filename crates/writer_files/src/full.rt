@@ -26,7 +26,27 @@ pub(crate) fn place<F: Folder>(full: &mut VecDeque<Full<F>>, chunk: Full<F>)
 }
 
 /// Makes the bytes of each file durable, of one after another until the folder refuses one.
-pub(crate) fn sync_each<F: Folder>(full: &mut [Full<F>], port: &mut F) -> Result<(), FolderRefusal>
+pub(crate) fn sync_full<F: Folder>(
+    full: &mut VecDeque<Full<F>>,
+    port: &mut F,
+) -> Result<(), FolderRefusal>
+    ensures synced { SyncsEach F.tells result full.old.items full.new.items }
+    ensures idle { All (λ chunk. chunk.unsynced ≡ false) full.old.items
+        → IsOk result × (full.new.items ≡ full.old.items) × (port.new ≡ port.old) }
+    ensures port { LeavesPort ⟦<F as Folder>⟧ (is_fault result) port.old port.new }
+{
+    sync_each(full.make_contiguous(), port)
+}
+
+/// Takes note of the names that the port says are durable.
+pub(crate) fn mark_full<F: Folder>(full: &mut VecDeque<Full<F>>, port: &F)
+    ensures { AllZip (IsMarkedFrom F.tells (F.port port.now).fixed) full.old.items full.new.items }
+{
+    mark_each(full.make_contiguous(), port);
+}
+
+/// Makes the bytes of each file in a slice durable, of one after another until the folder refuses one.
+fn sync_each<F: Folder>(full: &mut [Full<F>], port: &mut F) -> Result<(), FolderRefusal>
     ensures synced { SyncsEach F.tells result full.old full.new }
     ensures idle { All (λ chunk. chunk.unsynced ≡ false) full.old
         → IsOk result × (full.new ≡ full.old) × (port.new ≡ port.old) }
@@ -38,8 +58,8 @@ pub(crate) fn sync_each<F: Folder>(full: &mut [Full<F>], port: &mut F) -> Result
     Ok(())
 }
 
-/// Takes note of the names that the port says are durable.
-pub(crate) fn mark_each<F: Folder>(full: &mut [Full<F>], port: &F)
+/// Takes note of the names in a slice that the port says are durable.
+fn mark_each<F: Folder>(full: &mut [Full<F>], port: &F)
     ensures { AllZip (IsMarkedFrom F.tells (F.port port.now).fixed) full.old full.new }
 {
     for chunk in full.iter_mut() {
