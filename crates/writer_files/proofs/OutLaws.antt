@@ -1,11 +1,11 @@
 -- Laws of chunks whose files are out, over what calls make of the port.
-use Rattle.std.proofs.Common.{◌≡◌, ◌≢◌, Bool, true, false, ◌&&◌, ◌||◌, List, [], ◌∷◌, ◌++◌, Option, Some, None, is_some, option_map, refl, ap, sym, ◌∙◌, subst, inl, inr}
+use Rattle.std.proofs.Common.{◌≡◌, ◌≢◌, Bool, true, false, ◌&&◌, ◌||◌, List, [], ◌∷◌, ◌++◌, Option, Some, None, is_some, option_map, length, arith, refl, ap, sym, ◌∙◌, subst, inl, inr}
 use Rattle.std.specs.List.{AllZip}
 use Rattle.std.proofs.lemmas.Bool.{cases_Bool, false≢true}
 use Rattle.hr_base.specs.declared.name.ChunkName.{ChunkName}
 use Rattle.hr_base.specs.NameTests.{is_name}
 use Rattle.hr_base.proofs.NameTestLaws.{is_name-true, is_name-false, same_name_or_not}
-use Rattle.dir_files.specs.Files.{FileState, IsFile, named_file}
+use Rattle.dir_files.specs.Files.{FileState, IsFile, named_file, new_file}
 use Rattle.dir_files.specs.Ports.{Port, SamePort, Creates, MayCreate, SyncsNames, Gives, can_be_fixed}
 use Rattle.value_chunk.specs.Chunks.{Chunk}
 use Rattle.writer_files.specs.Hands.{file_among, AreOut, IsOut}
@@ -80,6 +80,7 @@ unlent_none p cs out n unlent =
 pub out_same : (p q : Port) → SamePort p q → (c : Chunk) → IsOut p c → IsOut q c
 out_same p q same c out = record {
   file = out.file;
+  synced = out.synced;
   lent = same.lent c.name ∙ out.lent;
   held = same.held c.name ∙ out.held;
   fixable = let e : can_be_fixed q c.name ≡ can_be_fixed p c.name = cc (same.fixed c.name, same.created c.name, same.lent c.name) in e ∙ out.fixable;
@@ -92,6 +93,7 @@ pub out_created : (p q : Port) (name : ChunkName) → Creates p q name → p.len
 out_created p q name creates unlent c out =
     let apart = apart_lent p name unlent c out in record {
       file = out.file;
+      synced = out.synced;
       lent = creates.lent.others c.name apart ∙ out.lent;
       held = creates.held c.name ∙ out.held;
       fixable = let e : can_be_fixed q c.name ≡ can_be_fixed p c.name = cc (creates.fixed c.name, creates.created.others c.name apart, creates.lent.others c.name apart) in e ∙ out.fixable;
@@ -101,6 +103,7 @@ pub out_may : (p q : Port) (name : ChunkName) → MayCreate p q name → p.lent 
 out_may p q name may unlent c out =
     let apart = apart_lent p name unlent c out in record {
       file = out.file;
+      synced = out.synced;
       lent = may.lent c.name ∙ out.lent;
       held = may.others c.name apart ∙ out.held;
       fixable = let e : can_be_fixed q c.name ≡ can_be_fixed p c.name = cc (may.fixed c.name, may.created c.name, may.lent c.name) in e ∙ out.fixable;
@@ -113,9 +116,10 @@ either_true false true false c l = absurd (false≢true l)
 either_true false false lent c l = absurd (false≢true c)
 
 -- the file that was created is out
-pub out_new : (p q : Port) (name : ChunkName) → Creates p q name → p.held name ≡ None → (d : Chunk) → d.name ≡ name → IsFile d.file → IsOut q d
-out_new p q name creates none d same is_file = record {
-  file = is_file;
+pub out_new : (p q : Port) (name : ChunkName) → Creates p q name → p.held name ≡ None → (d : Chunk) → d.name ≡ name → d.file ≡ new_file → IsOut q d
+out_new p q name creates none d same is = record {
+  file = subst IsFile (sym is) (omega arith);
+  synced = λ idle. subst (λ (f : FileState). f.front ≡ length f.bytes) (sym is) refl;
   lent = ap q.lent same ∙ creates.lent.at;
   held = ap q.held same ∙ creates.held name ∙ none;
   fixable = ap (can_be_fixed q) same ∙ either_true (q.fixed name) (q.created name) (q.lent name) creates.created.at creates.lent.at;
@@ -124,9 +128,10 @@ out_new p q name creates none d same is_file = record {
 pub fixed_synced : (p q : Port) → SyncsNames p q → (c : Chunk) → IsOut p c → q.fixed c.name ≡ true
 fixed_synced p q syncs c out = syncs.fixed c.name ∙ out.fixable
 
-pub out_synced : (p q : Port) → SyncsNames p q → (c d : Chunk) → d.name ≡ c.name → IsFile d.file → IsOut p c → IsOut q d
-out_synced p q syncs c d same is_file out = record {
+pub out_synced : (p q : Port) → SyncsNames p q → (c d : Chunk) → d.name ≡ c.name → IsFile d.file → d.file.front ≡ length d.file.bytes → IsOut p c → IsOut q d
+out_synced p q syncs c d same is_file front out = record {
   file = is_file;
+  synced = λ idle. front;
   lent = ap q.lent same ∙ syncs.lent c.name ∙ out.lent;
   held = ap q.held same ∙ syncs.held c.name ∙ ap (option_map named_file) out.held;
   fixable = ap (can_be_fixed q) same ∙ ap (λ (b : Bool). b || (q.created c.name && q.lent c.name)) (fixed_synced p q syncs c out);
@@ -135,6 +140,7 @@ out_synced p q syncs c d same is_file out = record {
 pub out_given : (p q : Port) (name : ChunkName) (file : FileState) → Gives p q name file → (c : Chunk) → c.name ≢ name → IsOut p c → IsOut q c
 out_given p q name file gives c apart out = record {
   file = out.file;
+  synced = out.synced;
   lent = gives.lent.others c.name apart ∙ out.lent;
   held = gives.held.others c.name apart ∙ out.held;
   fixable = let e : can_be_fixed q c.name ≡ can_be_fixed p c.name = cc (gives.fixed.others c.name apart, gives.created c.name, gives.lent.others c.name apart) in e ∙ out.fixable;

@@ -1,14 +1,15 @@
 -- What each call makes of a stock and of its files.
-use Rattle.std.proofs.Common.{◌≡◌, ◌≢◌, ◌⊎◌, ℕ, Bool, true, false, ◌||◌, List, [], ◌∷◌, ◌++◌, All, length, take, drop, Option, Some, None, is_some, option_map, IfSome, IsSomeAnd, OnOk, Result, Ok, Err, refl, ap, sym, ◌∙◌, subst, inl, inr, arith, append_assoc, length-append}
+use Rattle.std.proofs.Common.{◌≡◌, ◌≢◌, ◌⊎◌, ℕ, Bool, true, false, ◌||◌, ◌&&◌, not, List, [], ◌∷◌, ◌++◌, All, length, take, drop, Option, Some, None, is_some, option_map, IfSome, IsSomeAnd, OnOk, Result, Ok, Err, if◌then◌else◌, refl, ap, sym, ◌∙◌, subst, inl, inr, arith, append_assoc, length-append}
 use Rattle.std.specs.List.{AllZip}
 use Rattle.std.specs.Option.{option_to_list}
-use Rattle.std.proofs.lemmas.Bool.{cases_Bool, false≢true}
+use Rattle.std.proofs.lemmas.Bool.{cases_Bool, false≢true, and_parts}
 use Rattle.std.proofs.lemmas.List.{take-append-drop}
+use Rattle.std.proofs.lemmas.List.Elements.{All-head, All-tail}
 use Rattle.hr_base.specs.declared.limits.TheConstants.{MAX_CHUNK_LIMIT}
 use Rattle.hr_base.specs.declared.name.Class.{Class}
 use Rattle.hr_base.specs.declared.name.ChunkName.{ChunkName}
 use Rattle.hr_base.specs.NameTests.{is_name}
-use Rattle.hr_base.proofs.NameTestLaws.{is_name-same, is_name-true, is_name-false, same_name_or_not}
+use Rattle.hr_base.proofs.NameTestLaws.{is_name-false, is_name-other, same_name_or_not}
 use Rattle.dir_files.specs.declared.folder.FolderRefusal.{FolderRefusal}
 use Rattle.dir_files.specs.declared.folder.FolderRefusal.TheVariants.{Memory, Fault}
 use Rattle.dir_files.specs.Files.{FileState, Files, Names, ChangesAt, SameAt, IsFile, IsDurable, KeepsMore, Rises, new_file, with_bytes, synced_file, named_file}
@@ -17,12 +18,12 @@ use Rattle.dir_files.proofs.JoinLaws.{rises_same, keeps_same}
 use Rattle.value_chunk.specs.Chunks.{Chunk, IsChunk, fits}
 use Rattle.value_chunk.specs.Calls.{IsTold, IsChunkKept, Appends, BeginsAt, begun, synced_chunk, marked}
 use Rattle.writer_files.specs.Hands.{Takings, of_class, with_class, taking_list, taking_fits, file_among, AreOnce, AreOut, IsOut}
-use Rattle.writer_files.specs.HandCalls.{AppendsIn, EachTaking, GainsFull, JoinsFull, IsSyncedFrom, IsMarkedFrom, SyncsTakings}
-use Rattle.writer_files.specs.Stocks.{Stock, in_hand, is_in_hand, files_of, taking_in, IsStock, LendsBut}
+use Rattle.writer_files.specs.HandCalls.{AppendsIn, EachTaking, GivesEach, GainsFull, JoinsFull, IsSyncedFrom, IsMarkedFrom, SyncsTakings}
+use Rattle.writer_files.specs.Stocks.{Stock, in_hand, is_in_hand, files_of, taking_in, AllDurable, IsStock, LendsBut}
 use Rattle.writer_files.specs.StockCalls.{BeginsFile, Extends, ExtendsFile, EachRises, KeepsChunk, KeepsHands, KeepsOthers, fresh_after}
 use Rattle.writer_files.proofs.HandLaws.{Adds, SameName, RisesTo, adds_files, adds_once, adds_other, adds_same, none_base, once_base, found_alike, once_alike, rises_among, rises_beside, seen_changes, seen_same}
 use Rattle.writer_files.proofs.ListLaws.{all_back, all_front, zip_append, zip_weaker, zip_all, zip_same, zip_then}
-use Rattle.writer_files.proofs.OutLaws.{found_out, out_adds, out_base, out_created, out_may, out_new, out_one, out_same, outs, outs_with, outs_zip, unlent_none}
+use Rattle.writer_files.proofs.OutLaws.{found_out, out_adds, out_base, out_created, out_may, out_new, out_one, out_same, out_synced, fixed_synced, outs, outs_given, outs_with, outs_zip, unlent_none}
 use Rattle.writer_files.proofs.SyncLaws.{kept_itself, kept_synced}
 use Rattle.writer_files.proofs.TakingLaws.{between, each_class, each_zip, list_now, with_here, with_other}
 
@@ -76,9 +77,6 @@ moved_full p full now pre post (Some c) gains once out =
     }
 
 -- ---- the begin of a chunk
-
-new_is_file : (f : FileState) → f ≡ new_file → IsFile f
-new_is_file f e = subst IsFile (sym e) (omega arith)
 
 lends_true : (found other : Bool) → found ≡ true → (found || other) ≡ true
 lends_true true other e = refl
@@ -135,7 +133,7 @@ module _ (old new : Stock) (class : Class) (d : Chunk) (name : ChunkName) (is : 
     once = adds_once d mid (in_hand new) added moved.once absent;
     out =
         out_adds new.port d mid (in_hand new) added (outs old.port new.port (out_created old.port new.port name creates unlent) mid moved.out)
-        (out_new old.port new.port name creates free_held d named (new_is_file d.file file));
+        (out_new old.port new.port name creates free_held d named file);
     foreign = λ n. creates.foreign n ∙ is.foreign n;
     gone = λ n. creates.gone n ∙ is.gone n;
     front = same_fronts old.port.held new.port.held creates.held is.front;
@@ -239,6 +237,12 @@ appends_named tells (Ok offset) c d bytes told h = ap (λ (f : FileState). f.nam
 appends_named tells (Err Fault) c d bytes told h = ap (λ (f : FileState). f.named) (h.file told).1
 appends_named tells (Err Memory) c d bytes told h = ap (λ (f : FileState). f.named) (h.file told)
 
+appends_synced : (tells : Bool) (r : Result ℕ FolderRefusal) (c d : Chunk) (bytes : List ℕ) → tells ≡ true → Appends tells r c d bytes → (c.unsynced ≡ false → c.file.front ≡ length c.file.bytes) → d.unsynced ≡ false → d.file.front ≡ length d.file.bytes
+appends_synced tells (Ok offset) c d bytes told h was idle = absurd (false≢true (sym idle ∙ h.1.unsynced))
+appends_synced tells (Err Fault) c d bytes told h was idle = absurd (false≢true (sym idle ∙ h.unsynced))
+appends_synced tells (Err Memory) c d bytes told h was idle =
+    subst (λ (f : FileState). f.front ≡ length f.bytes) (sym (h.file told)) (was (sym h.unsynced ∙ idle))
+
 fits_some : (o : Option Chunk) (c : Chunk) (len limit : ℕ) → o ≡ Some c → taking_fits o len limit ≡ true → fits c.size len limit ≡ true
 fits_some o c len limit is room = subst (λ (x : Option Chunk). taking_fits x len limit ≡ true) is room
 
@@ -327,6 +331,7 @@ module _ (tells : Bool) (told : tells ≡ true) (r : Result ℕ FolderRefusal) (
   after_out =
       let moved = out_same old.port new.port same c one_out in record {
         file = appends_file tells r c d bytes told appends.one.appends one_out.file;
+        synced = appends_synced tells r c d bytes told appends.one.appends one_out.synced;
         lent = ap new.port.lent same_name ∙ moved.lent;
         held = ap new.port.held same_name ∙ moved.held;
         fixable = ap (can_be_fixed new.port) same_name ∙ moved.fixable;
@@ -389,8 +394,9 @@ hands_then a b c first second = record {
   full = zip_then KeepsChunk KeepsChunk KeepsChunk keeps_then a.full b.full c.full first.full second.full;
 }
 
-pub hands_same : (a : Stock) → KeepsHands a a
-hands_same a = record {
+-- at another port
+pub hands_same : (a : Stock) (p : Port) → KeepsHands a (record { port = p; taking = a.taking; full = a.full; fresh = a.fresh })
+hands_same a p = record {
   taking = λ class. zip_same KeepsChunk (λ c. record { name = refl; size = refl; torn = refl }) (option_to_list (taking_in a class));
   full = zip_same KeepsChunk (λ c. record { name = refl; size = refl; torn = refl }) a.full;
 }
@@ -419,6 +425,10 @@ kept_out tells told p q same c d is out =
       file = elim is.either [
         | inl as_was ↦ subst IsFile (sym (as_was.file told)) out.file
         | inr after ↦ subst IsFile (sym (after.file told)) (synced_is_file c.file)
+      ];
+      synced = λ idle. elim is.either [
+        | inl as_was ↦ subst (λ (f : FileState). f.front ≡ length f.bytes) (sym (as_was.file told)) (out.synced (sym as_was.unsynced ∙ idle))
+        | inr after ↦ subst (λ (f : FileState). f.front ≡ length f.bytes) (sym (after.file told)) refl
       ];
       lent = ap q.lent is.name ∙ moved.lent;
       held = ap q.held is.name ∙ moved.held;
@@ -503,3 +513,348 @@ stock_of port taking full fresh = record { port = port; taking = taking; full = 
 pub same_stock : (s : Stock) (port : Port) (taking : Takings) (full : List Chunk) → port ≡ s.port → taking ≡ s.taking → full ≡ s.full → stock_of port taking full s.fresh ≡ s
 same_stock s port taking full e f h =
     ap (λ (x : Port). stock_of x taking full s.fresh) e ∙ ap (λ (x : Takings). stock_of s.port x full s.fresh) f ∙ ap (λ (x : List Chunk). stock_of s.port s.taking x s.fresh) h
+
+-- ---- a sync of names
+
+-- the chunk is the one before it, with a name that is durable, and a crash keeps all of its file
+record Settles (c d : Chunk) : Type 0 where
+  name : d.name ≡ c.name
+  file : d.file ≡ named_file c.file
+  front : c.file.front ≡ length c.file.bytes
+
+marked_name : (b tells : Bool) (c d : Chunk) → IsTold tells (if b then marked c else c) d → KeepsChunk c d
+marked_name true tells c d is = record { name = is.name; size = is.size; torn = is.torn }
+marked_name false tells c d is = record { name = is.name; size = is.size; torn = is.torn }
+
+pub marked_chunks : (tells : Bool) (fixed : Names) (c d : Chunk) → IsMarkedFrom tells fixed c d → KeepsChunk c d
+marked_chunks tells fixed c d is = marked_name (fixed c.name) tells c d is
+
+marked_idle : (b tells : Bool) (c d : Chunk) → IsTold tells (if b then marked c else c) d → IsIdle c → IsIdle d
+marked_idle true tells c d is idle = is.unsynced ∙ idle
+marked_idle false tells c d is idle = is.unsynced ∙ idle
+
+pub idle_marked : (tells : Bool) (fixed : Names) (xs ys : List Chunk) → AllZip (IsMarkedFrom tells fixed) xs ys → All IsIdle xs → All IsIdle ys
+idle_marked tells fixed xs ys zip all =
+    zip_all (IsMarkedFrom tells fixed) IsIdle IsIdle (λ c d is idle. marked_idle (fixed c.name) tells c d is idle) xs ys zip all
+
+marked_file : (b tells : Bool) (c d : Chunk) → b ≡ true → tells ≡ true → IsTold tells (if b then marked c else c) d → d.file ≡ named_file c.file
+marked_file true tells c d fixed told is = is.file told
+marked_file false tells c d fixed told is = absurd (false≢true fixed)
+
+settles_file : (f g : FileState) → g ≡ named_file f → f.front ≡ length f.bytes → KeepsMore f g
+settles_file f g e front = subst (λ (x : FileState). KeepsMore f x) (sym e) (record { bytes = refl; front = omega arith; named = λ named. refl })
+
+settles_durable : (f g : FileState) → g ≡ named_file f → f.front ≡ length f.bytes → IsDurable g
+settles_durable f g e front = subst IsDurable (sym e) (record { front = front; named = refl })
+
+durable_file : (g : FileState) → IsDurable g → IsFile g
+durable_file g durable = omega (arith, durable.front)
+
+cond_durable : (b : Bool) (f : FileState) (o : Option FileState) → IsDurable f → IfSome o IsDurable → IfSome (if b then Some f else o) IsDurable
+cond_durable true f o first second = first
+cond_durable false f o first second = second
+
+zip_with_out : (p : Port) (R Q : Chunk → Chunk → Type 0) (P : Chunk → Type 0) → ((c d : Chunk) → R c d → IsOut p c → P c → Q c d) → (xs ys : List Chunk) → AllZip R xs ys → AreOut p xs → All P xs → AllZip Q xs ys
+zip_with_out p R Q P step [] [] zip out all = tt
+zip_with_out p R Q P step [] (y ∷ ys) zip out all = absurd zip
+zip_with_out p R Q P step (x ∷ xs) [] zip out all = absurd zip
+zip_with_out p R Q P step (x ∷ xs) (y ∷ ys) zip out all =
+    (step x y zip.0 out.0 (All-head P x xs all), zip_with_out p R Q P step xs ys zip.1 out.1 (All-tail P x xs all))
+
+among_durable : (xs ys : List Chunk) → AllZip Settles xs ys → (n : ChunkName) → IfSome (file_among ys n) IsDurable
+among_durable [] [] zip n = tt
+among_durable [] (y ∷ ys) zip n = absurd zip
+among_durable (x ∷ xs) [] zip n = absurd zip
+among_durable (x ∷ xs) (y ∷ ys) zip n =
+    cond_durable (is_name y.name n) y.file (file_among ys n) (settles_durable x.file y.file zip.0.file zip.0.front) (among_durable xs ys zip.1 n)
+
+named_rises : (h : Option FileState) → Rises h (option_map named_file h)
+named_rises None = refl
+named_rises (Some f) = record { bytes = refl; front = omega arith; named = λ named. refl }
+
+named_durable : (h : Option FileState) → ((f : FileState) → h ≡ Some f → f.front ≡ length f.bytes) → IfSome (option_map named_file h) IsDurable
+named_durable None fronts = tt
+named_durable (Some f) fronts = record { front = fronts f refl; named = refl }
+
+either_durable : (p h : Option FileState) → IfSome p IsDurable → IfSome h IsDurable → IfSome (either_file p h) IsDurable
+either_durable None h first second = second
+either_durable (Some f) h first second = first
+
+pub durable_at : (o : Option FileState) (file : FileState) → IfSome o IsDurable → o ≡ Some file → IsDurable file
+durable_at o file durable is = subst (λ (x : Option FileState). IfSome x IsDurable) is durable
+
+module _ (tells : Bool) (told : tells ≡ true) (old new : Stock) (is : IsStock old) (syncs : SyncsNames old.port new.port) (idle : All IsIdle (in_hand old)) (zip : AllZip (IsMarkedFrom tells new.port.fixed) (in_hand old) (in_hand new)) where
+  settled_zip : AllZip Settles (in_hand old) (in_hand new)
+  settled_zip =
+      zip_with_out old.port (IsMarkedFrom tells new.port.fixed) Settles IsIdle
+      (λ c d marked out quiet. record {
+        name = (marked_chunks tells new.port.fixed c d marked).name;
+        file = marked_file (new.port.fixed c.name) tells c d (fixed_synced old.port new.port syncs c out) told marked;
+        front = out.synced quiet;
+      })
+      (in_hand old) (in_hand new) zip is.out idle
+
+  names_zip : AllZip SameName (in_hand old) (in_hand new)
+  names_zip = zip_weaker Settles SameName (λ c d settles. settles.name) (in_hand old) (in_hand new) settled_zip
+
+  pub settled_files : EachRises (files_of old) (files_of new)
+  settled_files n =
+      rises_beside (file_among (in_hand old) n) (file_among (in_hand new) n) (old.port.held n) (new.port.held n)
+      (rises_among (in_hand old) (in_hand new) (zip_weaker Settles RisesTo (λ c d settles. record { name = settles.name; file = settles_file c.file d.file settles.file settles.front }) (in_hand old) (in_hand new) settled_zip) n)
+      (subst (λ (h : Option FileState). Rises (old.port.held n) h) (sym (syncs.held n)) (named_rises (old.port.held n)))
+      (sym (found_alike (in_hand old) (in_hand new) names_zip n))
+
+  pub settled_durable : AllDurable (files_of new)
+  settled_durable n =
+      either_durable (file_among (in_hand new) n) (new.port.held n) (among_durable (in_hand old) (in_hand new) settled_zip n)
+      (subst (λ (h : Option FileState). IfSome h IsDurable) (sym (syncs.held n)) (named_durable (old.port.held n) (is.front n)))
+
+  pub settled_stock : IsStock new
+  settled_stock = record {
+    once = once_alike (in_hand old) (in_hand new) names_zip is.once;
+    out =
+        outs_zip old.port new.port Settles
+        (λ c d settles out.
+        let durable = settles_durable c.file d.file settles.file settles.front in
+        out_synced old.port new.port syncs c d settles.name (durable_file d.file durable) durable.front out)
+        (in_hand old) (in_hand new) settled_zip is.out;
+    foreign = λ n. syncs.foreign n ∙ is.foreign n;
+    gone = λ n. syncs.gone n;
+    front = λ n file held.
+        (durable_at (new.port.held n) file (subst (λ (h : Option FileState). IfSome h IsDurable) (sym (syncs.held n)) (named_durable (old.port.held n) (is.front n))) held).front;
+    named = λ stale n file there. (durable_at (files_of new n) file (settled_durable n) there).named;
+  }
+
+  pub settled_lends : (others : Names) → LendsBut others old → LendsBut others new
+  settled_lends = zip_lends old new names_zip syncs.lent
+
+-- ---- a whole sync
+
+rises_pair : (x y z : Option FileState) → Rises x y → Rises y z → Rises x z
+rises_pair None None z first second = second
+rises_pair None (Some g) z first second = absurd cc
+rises_pair (Some f) None z first second = absurd first
+rises_pair (Some f) (Some g) None first second = absurd second
+rises_pair (Some f) (Some g) (Some h) first second = record {
+  bytes = second.bytes ∙ first.bytes;
+  front = omega (arith, first.front, second.front);
+  named = λ named. second.named (first.named named);
+}
+
+pub rises_then : (a b c : Files) → EachRises a b → EachRises b c → EachRises a c
+rises_then a b c first second n = rises_pair (a n) (b n) (c n) (first n) (second n)
+
+cond_file : (b : Bool) (g : FileState) (o : Option FileState) (f : FileState) → IsFile g → (o ≡ Some f → IsFile f) → (if b then Some g else o) ≡ Some f → IsFile f
+cond_file true g o f first second is = let same : g ≡ f = cc in subst IsFile same first
+cond_file false g o f first second is = second is
+
+cond_front : (b : Bool) (g : FileState) (o : Option FileState) (f : FileState) → g.front ≡ length g.bytes → (o ≡ Some f → f.front ≡ length f.bytes) → (if b then Some g else o) ≡ Some f → f.front ≡ length f.bytes
+cond_front true g o f first second is = let same : g ≡ f = cc in subst (λ (x : FileState). x.front ≡ length x.bytes) same first
+cond_front false g o f first second is = second is
+
+files_fit : (p h : Option FileState) → ((f : FileState) → p ≡ Some f → IsFile f) → ((f : FileState) → h ≡ Some f → IsFile f) → (f : FileState) → either_file p h ≡ Some f → IsFile f
+files_fit None h first second f is = second f is
+files_fit (Some g) h first second f is = first f is
+
+among_file : (p : Port) (cs : List Chunk) → AreOut p cs → (n : ChunkName) (f : FileState) → file_among cs n ≡ Some f → IsFile f
+among_file p [] out n f is = absurd cc
+among_file p (c ∷ cs) out n f is = cond_file (is_name c.name n) c.file (file_among cs n) f out.0.file (among_file p cs out.1 n f) is
+
+pub stock_files : (s : Stock) → IsStock s → IsPort s.port → (n : ChunkName) (f : FileState) → files_of s n ≡ Some f → IsFile f
+stock_files s is port n f there =
+    files_fit (file_among (in_hand s) n) (s.port.held n) (among_file s.port (in_hand s) is.out n) (port.held_fits n) f there
+
+-- all is durable where nothing is to be synced
+quiet_among : (p : Port) (cs : List Chunk) → AreOut p cs → All IsIdle cs → (n : ChunkName) (f : FileState) → file_among cs n ≡ Some f → f.front ≡ length f.bytes
+quiet_among p [] out all n f is = absurd cc
+quiet_among p (c ∷ cs) out all n f is =
+    cond_front (is_name c.name n) c.file (file_among cs n) f (out.0.synced (All-head IsIdle c cs all)) (quiet_among p cs out.1 (All-tail IsIdle c cs all) n f) is
+
+fronts_fit : (p h : Option FileState) → ((f : FileState) → p ≡ Some f → f.front ≡ length f.bytes) → ((f : FileState) → h ≡ Some f → f.front ≡ length f.bytes) → (f : FileState) → either_file p h ≡ Some f → f.front ≡ length f.bytes
+fronts_fit None h first second f is = second f is
+fronts_fit (Some g) h first second f is = first f is
+
+durable_if : (o : Option FileState) → ((f : FileState) → o ≡ Some f → IsDurable f) → IfSome o IsDurable
+durable_if None durable = tt
+durable_if (Some f) durable = durable f refl
+
+pub quiet_durable : (s : Stock) → IsStock s → s.fresh ≡ false → All IsIdle (in_hand s) → AllDurable (files_of s)
+quiet_durable s is fresh all n = durable_if (files_of s n) (λ f there. record {
+  front = fronts_fit (file_among (in_hand s) n) (s.port.held n) (quiet_among s.port (in_hand s) is.out all n) (is.front n) f there;
+  named = is.named fresh n f there;
+})
+
+-- ---- a full chunk that goes
+
+last_true : (a b c : Bool) → c ≡ true → (a || (b || c)) ≡ true
+last_true true b c e = refl
+last_true false true c e = refl
+last_true false false c e = e
+
+first_two : (was a b c : Bool) → a ≡ was → (was || b) ≡ true → (a || (b || c)) ≡ true
+first_two was true b c same holds = refl
+first_two was false true c same holds = refl
+first_two true false false c same holds = absurd (false≢true same)
+first_two false false false c same holds = absurd (false≢true holds)
+
+but_one : (was a b c : Bool) → a ≡ was → c ≡ false → (was || (b || c)) ≡ true → (a || b) ≡ true
+but_one was true b c same none holds = refl
+but_one was false true c same none holds = refl
+but_one true false false c same none holds = absurd (false≢true same)
+but_one false false false c same none holds = sym none ∙ holds
+
+lent_foreign : (foreign lent : Bool) → foreign ≡ false → lent ≡ true → (foreign || not lent) ≡ false
+lent_foreign true lent e f = e
+lent_foreign false true e f = refl
+lent_foreign false false e f = absurd (false≢true f)
+
+given_foreign : (foreign found lent : Bool) → foreign ≡ false → (found ≡ true → lent ≡ true) → (foreign || (found && not lent)) ≡ false
+given_foreign true found lent e f = e
+given_foreign false false lent e f = refl
+given_foreign false true true e f = refl
+given_foreign false true false e f = absurd (false≢true (f refl))
+
+none_either : (b : Bool) (o : Option FileState) → o ≡ None → (if b then None else o) ≡ None
+none_either true o e = refl
+none_either false o e = e
+
+other_true : (a b : Bool) → not a ≡ true → (a || b) ≡ true → b ≡ true
+other_true true b none holds = absurd (false≢true none)
+other_true false b none holds = holds
+
+first_none : (p h : Option FileState) → either_file p h ≡ None → p ≡ None
+first_none None h e = refl
+first_none (Some f) h e = absurd cc
+
+module _ (old new : Stock) (c : Chunk) (is : IsStock old) (port : new.port ≡ old.port) (full : old.full ≡ c ∷ new.full) (taking : new.taking ≡ old.taking) (fresh : new.fresh ≡ old.fresh) where
+  with_it : Adds c (in_hand new) (in_hand old)
+  with_it = record {
+    before = [];
+    after = in_hand new;
+    beside = refl;
+    is = ap (λ (t : Takings). old.full ++ taking_list t) (sym taking) ∙ ap (λ (xs : List Chunk). xs ++ taking_list new.taking) full;
+  }
+
+  was_out : IsOut old.port c
+  was_out = out_one old.port c (in_hand new) (in_hand old) with_it is.out
+
+  gone_name : file_among (in_hand new) c.name ≡ None
+  gone_name = none_base c (in_hand new) (in_hand old) with_it is.once
+
+  hands_less : ChangesAt (file_among (in_hand new)) (file_among (in_hand old)) c.name (Some c.file)
+  hands_less = adds_files c (in_hand new) (in_hand old) with_it gone_name
+
+  pub out_file : files_of old c.name ≡ Some c.file
+  out_file = ap (λ (o : Option FileState). either_file o (old.port.held c.name)) hands_less.at
+
+  pub out_lent : new.port.lent c.name ≡ true
+  out_lent = ap (λ (p : Port). p.lent c.name) port ∙ was_out.lent
+
+  pub out_files : ChangesAt (files_of old) (files_of new) c.name None
+  out_files = record {
+    at = ap (λ (o : Option FileState). either_file o (new.port.held c.name)) gone_name ∙ ap (λ (p : Port). p.held c.name) port ∙ was_out.held;
+    others = λ n apart.
+        ap (λ (o : Option FileState). either_file o (new.port.held n)) (sym (hands_less.others n apart))
+        ∙ ap (λ (p : Port). either_file (file_among (in_hand old) n) (p.held n)) port;
+  }
+
+  pub out_stock : IsStock new
+  out_stock = record {
+    once = once_base c (in_hand new) (in_hand old) with_it is.once;
+    out = subst (λ (p : Port). AreOut p (in_hand new)) (sym port) (out_base old.port c (in_hand new) (in_hand old) with_it is.out);
+    foreign = λ n. ap (λ (p : Port). p.foreign n) port ∙ is.foreign n;
+    gone = λ n. ap (λ (p : Port). p.gone n) port ∙ is.gone n;
+    front = λ n file held. is.front n file (sym (ap (λ (p : Port). p.held n) port) ∙ held);
+    named = λ stale n file there. elim (same_name_or_not n c.name) [
+      | inl here ↦ absurd (let e : None ≡ Some file = sym (ap (files_of new) here ∙ out_files.at) ∙ there in cc)
+      | inr apart ↦ is.named (sym fresh ∙ stale) n file (sym (out_files.others n apart) ∙ there)
+    ];
+  }
+
+  pub out_durable : old.fresh ≡ false → c.unsynced ≡ false → IsDurable c.file
+  out_durable stale idle = record { front = was_out.synced idle; named = is.named stale c.name c.file out_file }
+
+  pub out_lends : (others : Names) → LendsBut others old → LendsBut (λ n. others n || is_name c.name n) new
+  out_lends others lends n lent =
+      let was = lends n (sym (ap (λ (p : Port). p.lent n) port) ∙ lent) in
+      elim (cases_Bool (is_name c.name n)) [
+        | inl here ↦ last_true (is_in_hand new n) (others n) (is_name c.name n) here
+        | inr past ↦
+            first_two (is_in_hand old n) (is_in_hand new n) (others n) (is_name c.name n)
+            (ap is_some (sym (hands_less.others n (λ e. is_name-false c.name n past (sym e))))) was
+      ]
+
+pub idle_first : (s : Stock) (c : Chunk) (rest : List Chunk) → s.full ≡ c ∷ rest → All IsIdle (in_hand s) → c.unsynced ≡ false
+idle_first s c rest e all = All-head IsIdle c rest (subst (λ (xs : List Chunk). All IsIdle xs) e (idle_full s all))
+
+-- the first full chunk was taken, where there is one
+pub popped_stock : (s : Stock) (full : List Chunk) (o : Option Chunk) → s.full ≡ option_to_list o ++ full → IsStock s → IsStock (stock_of s.port s.taking full s.fresh)
+popped_stock s full None e is = subst (λ (xs : List Chunk). IsStock (stock_of s.port s.taking xs s.fresh)) e is
+popped_stock s full (Some c) e is = out_stock s (stock_of s.port s.taking full s.fresh) c is refl e refl refl
+
+-- ---- a file that comes back
+
+module _ (old new : Stock) (name : ChunkName) (file : FileState) (is : IsStock old) (gives : Gives old.port new.port name file) (full : new.full ≡ old.full) (taking : new.taking ≡ old.taking) (none : files_of old name ≡ None) where
+  back_hands : in_hand new ≡ in_hand old
+  back_hands = ap (λ (t : Takings). new.full ++ taking_list t) taking ∙ ap (λ (xs : List Chunk). xs ++ taking_list old.taking) full
+
+  back_among : (n : ChunkName) → file_among (in_hand new) n ≡ file_among (in_hand old) n
+  back_among n = ap (λ (xs : List Chunk). file_among xs n) back_hands
+
+  none_back : file_among (in_hand old) name ≡ None
+  none_back = first_none (file_among (in_hand old) name) (old.port.held name) none
+
+  pub back_files : ChangesAt (files_of old) (files_of new) name (Some file)
+  back_files = record {
+    at = ap (λ (o : Option FileState). either_file o (new.port.held name)) (back_among name ∙ none_back) ∙ gives.held.at;
+    others = λ n apart.
+        ap (λ (o : Option FileState). either_file o (new.port.held n)) (back_among n)
+        ∙ ap (λ (o : Option FileState). either_file (file_among (in_hand old) n) o) (gives.held.others n apart);
+  }
+
+  pub back_stock : old.port.lent name ≡ true → IsDurable file → new.fresh ≡ old.fresh → IsStock new
+  back_stock lent durable fresh = record {
+    once = subst AreOnce (sym back_hands) is.once;
+    out = subst (AreOut new.port) (sym back_hands) (outs_given old.port new.port name file gives (in_hand old) none_back is.out);
+    foreign = λ n. elim (same_name_or_not n name) [
+      | inl here ↦ ap new.port.foreign here ∙ gives.foreign.at ∙ lent_foreign (old.port.foreign name) (old.port.lent name) (is.foreign name) lent
+      | inr apart ↦ gives.foreign.others n apart ∙ is.foreign n
+    ];
+    gone = λ n. elim (same_name_or_not n name) [
+      | inl here ↦ ap new.port.gone here ∙ gives.gone.at
+      | inr apart ↦ gives.gone.others n apart ∙ is.gone n
+    ];
+    front = λ n f held. elim (same_name_or_not n name) [
+      | inl here ↦
+          let e : file ≡ f = let e : Some file ≡ Some f = sym gives.held.at ∙ ap new.port.held (sym here) ∙ held in cc in
+          subst (λ (x : FileState). x.front ≡ length x.bytes) e durable.front
+      | inr apart ↦ is.front n f (sym (gives.held.others n apart) ∙ held)
+    ];
+    named = λ stale n f there. elim (same_name_or_not n name) [
+      | inl here ↦
+          let e : file ≡ f = let e : Some file ≡ Some f = sym back_files.at ∙ ap (files_of new) (sym here) ∙ there in cc in
+          subst (λ (x : FileState). x.named ≡ true) e durable.named
+      | inr apart ↦ is.named (sym fresh ∙ stale) n f (sym (back_files.others n apart) ∙ there)
+    ];
+  }
+
+  pub back_lends : (others : Names) → LendsBut (λ n. others n || is_name name n) old → LendsBut others new
+  back_lends others lends n lent = elim (same_name_or_not n name) [
+    | inl here ↦ absurd (false≢true (sym (ap new.port.lent here ∙ gives.lent.at) ∙ lent))
+    | inr apart ↦
+        but_one (is_in_hand old n) (is_in_hand new n) (others n) (is_name name n) (ap is_some (back_among n)) (is_name-other name n (λ e. apart (sym e)))
+        (lends n (sym (gives.lent.others n apart) ∙ lent))
+  ]
+
+-- ---- all that comes back at the end
+
+module _ (s : Stock) (q : Port) (is : IsStock s) (gives : GivesEach s.port q (in_hand s)) where
+  pub closed_lends : (others : Names) → LendsBut others s → (n : ChunkName) → q.lent n ≡ true → others n ≡ true
+  closed_lends others lends n lent =
+      let parts = and_parts (s.port.lent n) (not (is_in_hand s n)) (sym (gives.lent n) ∙ lent) in
+      other_true (is_in_hand s n) (others n) parts.1 (lends n parts.0)
+
+  pub closed_calm : (n : ChunkName) → (q.foreign n ≡ false) × (q.gone n ≡ None)
+  closed_calm n =
+      (gives.foreign n ∙ given_foreign (s.port.foreign n) (is_in_hand s n) (s.port.lent n) (is.foreign n) (λ found. (found_out s.port (in_hand s) is.out n found).0),
+          gives.gone n ∙ none_either (is_in_hand s n) (s.port.gone n) (is.gone n))

@@ -1,5 +1,5 @@
 -- The chunks that a writer has in hand: those that take records, one of each class at most, and full ones.
-use Rattle.std.specs.Prelude.{◌≡◌, ℕ, Bool, true, false, List, [], ◌∷◌, ◌++◌, ⊤, Option, None, Some, option_to_list, IfSome, if◌then◌else◌}
+use Rattle.std.specs.Prelude.{◌≡◌, ℕ, Bool, true, false, List, [], ◌∷◌, ◌++◌, ⊤, Option, None, Some, option_to_list, IfSome, length, if◌then◌else◌}
 use Rattle.hr_base.specs.declared.name.Class.{Class}
 use Rattle.hr_base.specs.declared.name.Class.TheVariants.{Value, Tomb, Clear}
 use Rattle.hr_base.specs.declared.name.ChunkName.{ChunkName}
@@ -60,10 +60,11 @@ abbrev pub AreOnce : List Chunk → Type 0
 AreOnce [] = ⊤
 AreOnce (chunk ∷ rest) = (file_among rest chunk.name ≡ None) × AreOnce rest
 
--- A chunk whose file was created at the port and is out: a crash keeps of it what is there, no other file lies there
--- under its name, and a directory sync fixes the name, or has.
+-- A chunk whose file was created at the port and is out: a crash keeps of it what is there, and all of it where no bytes
+-- are unsynced; no other file lies there under its name, and a directory sync fixes the name, or has.
 pub record IsOut (port : Port) (chunk : Chunk) : Type 0 where
   pub file : IsFile chunk.file
+  pub synced : chunk.unsynced ≡ false → chunk.file.front ≡ length chunk.file.bytes
   pub lent : port.lent chunk.name ≡ true
   pub held : port.held chunk.name ≡ None
   pub fixable : can_be_fixed port chunk.name ≡ true

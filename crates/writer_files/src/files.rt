@@ -34,7 +34,7 @@ impl<F: Folder> WriterFiles<F> {
     ghost use Rattle.hr_base.specs.Names.{IsChunkName, class_of_kind};
     ghost use Rattle.hr_base.specs.NameTests.{is_name};
     ghost use Rattle.dir_files.specs.Faults.{is_fault};
-    ghost use Rattle.dir_files.specs.Files.{ChangesAt, FileState, IsFile, Names, SameAt};
+    ghost use Rattle.dir_files.specs.Files.{ChangesAt, FileState, IsDurable, IsFile, Names};
     ghost use Rattle.dir_files.specs.PortCalls.{CountsCall, GivesFile, LeavesPort};
     ghost use Rattle.dir_files.specs.Ports.{IsEmptyPort, SamePort};
     ghost use Rattle.dir_files.specs.PortStates.{IsGivenBack};
@@ -189,13 +189,14 @@ impl<F: Folder> WriterFiles<F> {
     /// The first full chunk by name, which is sealed by a sync. It takes no memory, and makes no call of the folder.
     pub fn next_sealed(&mut self) -> Option<Sealed<F>>
         requires { IsSynced (stock self.old) }
-        ensures none { IfNone result (((stock self.old).full ≡ []) × (self.new ≡ self.old)) }
+        ensures none { IfNone result (((stock self.old).full ≡ []) × (stock self.new ≡ stock self.old)) }
         ensures out { IfSome result (λ chunk. HandsOut (stock self.old) (stock self.new) chunk) }
         ensures files { F.tells ≡ true → IfSome result (λ chunk. (files_of (stock self.old) chunk.name ≡ Some chunk.file)
             × ChangesAt (files_of (stock self.old)) (files_of (stock self.new)) chunk.name None) }
         ensures lends { F.tells ≡ true → IfSome result (λ chunk. ((stock self.new).port.lent chunk.name ≡ true)
             × ((others : Names) → LendsBut others (stock self.old)
             → LendsBut (λ name. others name || is_name chunk.name name) (stock self.new))) }
+        ensures durable { F.tells ≡ true → IfSome result (λ chunk. IsDurable chunk.file) }
         ensures port { stock_port self.new ≡ stock_port self.old }
     {
         match self.full.pop_front() {
@@ -206,8 +207,9 @@ impl<F: Folder> WriterFiles<F> {
 
     /// Gives the file of a sealed chunk back to the folder.
     pub fn give(&mut self, chunk: Sealed<F>)
-        requires { F.tells ≡ true → (files_of (stock self.old) chunk.name ≡ None)
+        requires out { F.tells ≡ true → (files_of (stock self.old) chunk.name ≡ None)
             × ((stock self.old).port.lent chunk.name ≡ true) }
+        requires durable { F.tells ≡ true → IsDurable chunk.file }
         ensures hands { ((stock self.new).taking ≡ (stock self.old).taking)
             × ((stock self.new).full ≡ (stock self.old).full) × ((stock self.new).fresh ≡ (stock self.old).fresh) }
         ensures files { F.tells ≡ true
