@@ -14,8 +14,8 @@ use Rattle.dir_files.specs.Images.{Image, durable_files as found_files}
 use Rattle.dir_files.specs.Ports.{either_file}
 use Rattle.dir_files.proofs.JoinLaws.{either_alone, rises_same}
 use Rattle.value_chunk.specs.Chunks.{Chunk}
-use Rattle.writer_chunks.specs.Lanes.{LaneState, empty_lane, takes, taking_fits}
-use Rattle.writer_files.specs.Stocks.{Stock, lane_of, taking_of, is_chunk_of}
+use Rattle.writer_files.specs.Hands.{Takings, no_takings, of_class, taking_fits}
+use Rattle.writer_files.specs.Stocks.{HasNone, Stock, is_chunk_of, taking_in, taking_of, takes}
 use Rattle.crash_law.specs.Growth.{file_or_new}
 use Rattle.partition_writer.specs.Standing.{Beginning, IsBeginning, IsOwnName, all_files, chosen, name_or, writer_kind}
 use Rattle.partition_writer.specs.Storing.{NamesOwn}
@@ -93,15 +93,15 @@ fits_all files found fits name file is = file_if (files name) (found name) (fits
 -- ---- the chunk that a record goes to
 
 -- a chunk that takes records is one of those that do
-pub taking_named : (stock : Stock) (class : Class) (chunk : Chunk) → (lane_of stock class).taking ≡ Some chunk → chunk.name.kind ≡ writer_kind class
+pub taking_named : (stock : Stock) (class : Class) (chunk : Chunk) → (taking_in stock class) ≡ Some chunk → chunk.name.kind ≡ writer_kind class
     → taking_of stock chunk.name ≡ true
 taking_named stock class chunk is kind =
-    ap (λ (c : Class). is_chunk_of (lane_of stock c).taking chunk.name) (ap class_of_kind kind ∙ class_of_writer_kind class)
+    ap (λ (c : Class). is_chunk_of (taking_in stock c) chunk.name) (ap class_of_kind kind ∙ class_of_writer_kind class)
     ∙ ap (λ (o : Option Chunk). is_chunk_of o chunk.name) is ∙ is_name-same chunk.name
 
 pub record Takes (p : Partition) (stock : Stock) (class : Class) (n : ChunkName) : Type 0 where
   pub chunk : Chunk
-  pub is : (lane_of stock class).taking ≡ Some chunk
+  pub is : (taking_in stock class) ≡ Some chunk
   pub name : n ≡ chunk.name
   pub of : chunk.name.partition ≡ p
   pub kind : chunk.name.kind ≡ writer_kind class
@@ -112,10 +112,10 @@ some_takes (Some chunk) len limit next fits = (chunk, refl, refl)
 
 -- it is the one that takes records and has room, or the next one
 pub chosen_cases : (partition : Partition) (stock : Stock) (class : Class) (len limit : ℕ) (next : ChunkName) → NamesOwn partition stock
-    → Takes partition stock class (chosen stock class len limit next) ⊎ ((takes (lane_of stock class) len limit ≡ false) × (chosen stock class len limit next ≡ next))
-chosen_cases partition stock class len limit next own = elim (cases_Bool (takes (lane_of stock class) len limit)) [
+    → Takes partition stock class (chosen stock class len limit next) ⊎ ((takes stock class len limit ≡ false) × (chosen stock class len limit next ≡ next))
+chosen_cases partition stock class len limit next own = elim (cases_Bool (takes stock class len limit)) [
   | inl room ↦
-      let some = some_takes (lane_of stock class).taking len limit next room in
+      let some = some_takes (taking_in stock class) len limit next room in
       let is = own class some.0 some.1 in
       inl (record {
         chunk = some.0;
@@ -127,6 +127,14 @@ chosen_cases partition stock class len limit next own = elim (cases_Bool (takes 
   | inr none ↦ inr (none, rw none refl)
 ]
 
--- in empty lanes no chunk takes records
-pub none_taken : (stock : Stock) → ((class : Class) → lane_of stock class ≡ empty_lane class) → (name : ChunkName) → taking_of stock name ≡ false
-none_taken stock empty name = ap (λ (lane : LaneState). is_chunk_of lane.taking name) (empty (class_of_kind name.kind))
+-- where no chunk is in hand, none takes records
+none_of : (class : Class) → of_class no_takings class ≡ None
+none_of Value = refl
+none_of Tomb = refl
+none_of Clear = refl
+
+pub none_in : (stock : Stock) → HasNone stock → (class : Class) → taking_in stock class ≡ None
+none_in stock none class = ap (λ (t : Takings). of_class t class) none.taking ∙ none_of class
+
+pub none_taken : (stock : Stock) → HasNone stock → (name : ChunkName) → taking_of stock name ≡ false
+none_taken stock none name = ap (λ (o : Option Chunk). is_chunk_of o name) (none_in stock none (class_of_kind name.kind))

@@ -13,8 +13,7 @@ use Rattle.hr_base.specs.declared.name.ChunkName.{ChunkName}
 use Rattle.hr_base.specs.Names.{IsChunkName}
 use Rattle.dir_files.specs.declared.folder.FolderRefusal.{FolderRefusal}
 use Rattle.dir_files.specs.declared.folder.FolderRefusal.TheVariants.{Memory, Fault}
-use Rattle.writer_chunks.specs.Lanes.{takes}
-use Rattle.writer_files.specs.Stocks.{lane_of}
+use Rattle.writer_files.specs.Stocks.{takes}
 use Rattle.record_format.specs.declared.record.Record.{Record}
 use Rattle.record_format.specs.Spelling.{class_of_record, spelling}
 use Rattle.partition_writer.specs.Standing.{Standing, chosen, chunk_for, has_room, limit_of, next_name, placed_in, spent_by}
@@ -112,10 +111,10 @@ number_most room old new most less within (inr after) = subst (λ (n : ℕ). n �
 
 -- a record that has no room may begin a chunk
 pub room_before : (s : Standing) (class : Class) (len limit : ℕ) (r : Record) → len ≡ length (spelling r) → limit ≡ limit_of s.limits class
-    → spent_by s class (length (spelling r)) ≡ None → (s.next_chunk < CHUNK_NO_END) ⊎ (takes (lane_of s.stock class) len limit ≡ true)
+    → spent_by s class (length (spelling r)) ≡ None → (s.next_chunk < CHUNK_NO_END) ⊎ (takes s.stock class len limit ≡ true)
 room_before s class len limit r bytes most none =
-    subst (λ (m : ℕ). (s.next_chunk < CHUNK_NO_END) ⊎ (takes (lane_of s.stock class) len m ≡ true)) (sym most)
-    (subst (λ (l : ℕ). (s.next_chunk < CHUNK_NO_END) ⊎ (takes (lane_of s.stock class) l (limit_of s.limits class) ≡ true)) (sym bytes)
+    subst (λ (m : ℕ). (s.next_chunk < CHUNK_NO_END) ⊎ (takes s.stock class len m ≡ true)) (sym most)
+    (subst (λ (l : ℕ). (s.next_chunk < CHUNK_NO_END) ⊎ (takes s.stock class l (limit_of s.limits class) ≡ true)) (sym bytes)
     (unspent_chunk s class (length (spelling r)) none))
 
 -- the name of a chunk that may have to be begun

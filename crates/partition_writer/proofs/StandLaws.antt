@@ -19,8 +19,8 @@ use Rattle.record_format.specs.Spelling.{IsRecord, class_of_record, key_of, seq_
 use Rattle.record_format.specs.Splits.{IsOfClass}
 use Rattle.record_format.proofs.SplitLaws.{spelling_length}
 use Rattle.value_chunk.specs.Chunks.{Chunk, fits}
-use Rattle.writer_chunks.specs.LaneCalls.{EachRises}
-use Rattle.writer_files.specs.Stocks.{Stock, lane_of, files_of, taking_of, is_chunk_of, AllDurable}
+use Rattle.writer_files.specs.StockCalls.{EachRises}
+use Rattle.writer_files.specs.Stocks.{Stock, files_of, taking_in, taking_of, is_chunk_of, AllDurable}
 use Rattle.writer_files.specs.StockCalls.{KeepsChunk, KeepsTaking}
 use Rattle.crash_law.specs.Accounts.{Account, answered, refused, synced, fresh_account}
 use Rattle.crash_law.specs.Commands.{Command, command_of, is_written, maps_after}
@@ -246,7 +246,7 @@ same_chunk name (Some c) (Some d) zip is = ap (λ (n : ChunkName). is_name n nam
 
 pub same_taking : (old new : Stock) → KeepsTaking old new → (name : ChunkName) → taking_of new name ≡ true → taking_of old name ≡ true
 same_taking old new keeps name is =
-    same_chunk name (lane_of old (class_of_kind name.kind)).taking (lane_of new (class_of_kind name.kind)).taking (keeps (class_of_kind name.kind)) is
+    same_chunk name (taking_in old (class_of_kind name.kind)) (taking_in new (class_of_kind name.kind)) (keeps (class_of_kind name.kind)) is
 
 -- a file that is there after was there before
 was_there : (o p : Option FileState) (file : FileState) → Rises o p → p ≡ Some file → (before : FileState) × (o ≡ Some before)

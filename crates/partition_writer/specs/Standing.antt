@@ -16,8 +16,7 @@ use Rattle.dir_files.specs.Images.{Image, durable_files as found_files}
 use Rattle.record_format.specs.declared.record.Record.{Record}
 use Rattle.record_format.specs.Spelling.{class_of_record, spelling}
 use Rattle.value_chunk.specs.Chunks.{Chunk}
-use Rattle.writer_chunks.specs.Lanes.{takes}
-use Rattle.writer_files.specs.Stocks.{Stock, lane_of, files_of, taking_of}
+use Rattle.writer_files.specs.Stocks.{Stock, files_of, taking_in, taking_of, takes}
 use Rattle.crash_law.specs.Accounts.{Account}
 use Rattle.crash_law.specs.Placed.{Placed, Base}
 use Rattle.crash_law.specs.Writers.{WriterStart, StandsFor, Written, IsWholeIn}
@@ -67,7 +66,7 @@ next_name s class = record { partition = s.partition; kind = writer_kind class; 
 
 -- the chunk that takes records of the class takes one of so many bytes
 abbrev pub has_room : Standing → Class → ℕ → Bool
-has_room s class len = takes (lane_of s.stock class) len (limit_of s.limits class)
+has_room s class len = takes s.stock class len (limit_of s.limits class)
 
 abbrev pub name_or : Option Chunk → ChunkName → ChunkName
 name_or None name = name
@@ -75,7 +74,7 @@ name_or (Some chunk) name = chunk.name
 
 -- the chunk that a record of so many bytes goes to: the one that takes records where it has room, and else the next one
 abbrev pub chosen : Stock → Class → ℕ → ℕ → ChunkName → ChunkName
-chosen stock class len limit next = if takes (lane_of stock class) len limit then name_or (lane_of stock class).taking next else next
+chosen stock class len limit next = if takes stock class len limit then name_or (taking_in stock class) next else next
 
 abbrev pub chunk_for : Standing → Class → ℕ → ChunkName
 chunk_for s class len = chosen s.stock class len (limit_of s.limits class) (next_name s class)

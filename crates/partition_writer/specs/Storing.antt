@@ -8,8 +8,8 @@ use Rattle.dir_files.specs.declared.folder.FolderRefusal.{FolderRefusal}
 use Rattle.dir_files.specs.declared.folder.FolderRefusal.TheVariants.{Memory, Fault}
 use Rattle.dir_files.specs.Files.{FileState, Files, ChangesAt, SameAt, new_file, with_bytes}
 use Rattle.value_chunk.specs.Chunks.{Chunk, fits}
-use Rattle.writer_chunks.specs.Lanes.{chunks, takes}
-use Rattle.writer_files.specs.Stocks.{Stock, lane_of, files_of, taking_of}
+use Rattle.writer_files.specs.Stocks.{Stock, files_of, taking_in, taking_of, takes}
+use Rattle.writer_files.specs.HandCalls.{GainsFull}
 use Rattle.writer_files.specs.StockCalls.{KeepsOthers}
 use Rattle.crash_law.specs.Growth.{file_or_new}
 use Rattle.partition_writer.specs.Standing.{chosen, writer_kind}
@@ -23,24 +23,29 @@ pub record IsNamedFor (p : Partition) (class : Class) (chunk : Chunk) : Type 0 w
 
 -- the chunks that take records are
 abbrev pub NamesOwn : Partition → Stock → Type 0
-NamesOwn partition stock = (class : Class) (chunk : Chunk) → (lane_of stock class).taking ≡ Some chunk → IsNamedFor partition class chunk
+NamesOwn partition stock = (class : Class) (chunk : Chunk) → (taking_in stock class) ≡ Some chunk → IsNamedFor partition class chunk
 
 -- no chunk that takes records is torn
 abbrev pub IsUntorn : Stock → Type 0
-IsUntorn stock = (class : Class) (chunk : Chunk) → (lane_of stock class).taking ≡ Some chunk → chunk.torn ≡ false
+IsUntorn stock = (class : Class) (chunk : Chunk) → (taking_in stock class) ≡ Some chunk → chunk.torn ≡ false
 
 -- how many bytes are in the chunk that takes records
 abbrev pub size_of : Option Chunk → ℕ
 size_of None = 0
 size_of (Some chunk) = chunk.size
 
+-- where there was no room, the chunk that took records is full
+abbrev pub FillsUp : Bool → Stock → Stock → Class → Type 0
+FillsUp true old new class = new.full ≡ old.full
+FillsUp false old new class = GainsFull old.full new.full (taking_in old class)
+
 -- A record of so many bytes went to its chunk: the one that takes records where it has room under the limit; else that one
 -- is full, and the next one was begun.
 pub record Fills (old new : Stock) (class : Class) (len limit : ℕ) (next : ChunkName) : Type 0 where
   pub others : KeepsOthers class old new
-  pub full : (lane_of new class).full ≡ (if takes (lane_of old class) len limit then (lane_of old class).full else chunks (lane_of old class))
-  pub name : IfSome (lane_of new class).taking (λ chunk. chunk.name ≡ chosen old class len limit next)
-  pub size : size_of (lane_of new class).taking ≡ (if takes (lane_of old class) len limit then size_of (lane_of old class).taking + len else len)
+  pub full : FillsUp (takes old class len limit) old new class
+  pub name : IfSome (taking_in new class) (λ chunk. chunk.name ≡ chosen old class len limit next)
+  pub size : size_of (taking_in new class) ≡ (if takes old class len limit then size_of (taking_in old class) + len else len)
 
 -- the number of the next chunk, once one was begun where the record had no room
 abbrev pub number_after : Bool → ℕ → ℕ

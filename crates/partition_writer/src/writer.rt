@@ -2,11 +2,10 @@
 
 ghost use Rattle.std.specs.Prelude.{◌≤◌, ◌<◌, ◌≡◌, ◌+◌, ◌++◌, ◌∷◌, [], None, true, false, IfOk, IfErr, vec_len, vec_capacity};
 ghost use Rattle.hr_base.specs.declared.limits.TheConstants.{CHUNK_NO_END, MAX_KEY_LEN, MAX_PARTITIONS, MAX_VALUE_LEN, SEQ_END};
-ghost use Rattle.hr_base.specs.declared.name.Class.{Class};
 ghost use Rattle.hr_base.specs.Entries.{KeepsLimits};
 ghost use Rattle.hr_base.specs.LimitRanges.{IsChunkLimit};
 ghost use Rattle.hr_base.specs.Records.{record_length};
-ghost use Rattle.writer_files.specs.Stocks.{files_of};
+ghost use Rattle.writer_files.specs.Stocks.{LendsBut, files_of, no_names};
 ghost use Rattle.writer_files.specs.StockViews.{stock};
 ghost use Rattle.partition_writer.specs.Answers.{put_record, remove_record};
 ghost use Rattle.partition_writer.specs.Standing.{placed};
@@ -14,7 +13,7 @@ ghost use Rattle.partition_writer.specs.Storing.{IsBelow, IsUntorn, NamesOwn};
 
 use crate::noted::Noted;
 use crate::refusal::WriteRefusal;
-use crate::storing::{chosen, kind_for, store};
+use crate::storing::{chosen, give_full, kind_for, store};
 use bytes::Bytes;
 use dir_files::{Folder, FolderRefusal};
 use hr_base::{
@@ -120,6 +119,7 @@ pub struct Writer<F: Folder> {
     ghost own: { NamesOwn partition (stock files) },
     ghost ready: { halted ≡ None → IsUntorn (stock files) },
     ghost below: { F.tells ≡ true → halted ≡ None → IsBelow (files_of (stock files)) next_chunk },
+    ghost lends: { F.tells ≡ true → LendsBut no_names (stock files) },
     ghost unlost: { halted ≡ None → lost ≡ false },
     pub ghost lengths: { KeepsLimits map.entries },
 }
@@ -136,9 +136,8 @@ impl<F: Folder> Writer<F> {
     ghost use Rattle.dir_files.specs.PortStates.{IsGivenBack};
     ghost use Rattle.record_format.specs.Spelling.{seq_of, spelling};
     ghost use Rattle.record_format.specs.Splits.{IsOfClass};
-    ghost use Rattle.writer_chunks.specs.LaneCalls.{EachRises};
-    ghost use Rattle.writer_chunks.specs.Lanes.{empty_lane};
-    ghost use Rattle.writer_files.specs.Stocks.{lane_of, AllDurable, IsSettled};
+    ghost use Rattle.writer_files.specs.StockCalls.{EachRises};
+    ghost use Rattle.writer_files.specs.Stocks.{AllDurable, HasNone, IsSettled};
     ghost use Rattle.crash_law.specs.Accounts.{Account, fresh_account};
     ghost use Rattle.crash_law.specs.Commands.{Put, Remove, Clear, command_of, is_written, maps_after};
     ghost use Rattle.crash_law.specs.Crashes.{PartSurvives};
@@ -175,7 +174,7 @@ impl<F: Folder> Writer<F> {
         ensures next_chunk { (standing result).next_chunk ≡ chunk }
         ensures running { (standing result).halted ≡ None }
         ensures lost { (standing result).lost ≡ false }
-        ensures lanes { (class : Class) → lane_of (standing result).stock class ≡ empty_lane class }
+        ensures hands { HasNone (standing result).stock }
         ensures port { port_of result ≡ port }
         // It has no file, and nothing is to be synced.
         ensures settled { IsSettled (standing result).stock }
@@ -473,6 +472,7 @@ impl<F: Folder> Writer<F> {
         }
         match self.files.sync() {
             Ok(()) => {
+                give_full(&mut self.files);
                 self.records.clear();
                 Ok(Seq(self.next - 1))
             }

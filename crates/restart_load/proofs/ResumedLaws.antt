@@ -81,7 +81,7 @@ resumed_same tells a b writers same resumed p s is =
       whole = one.whole;
       records = one.records;
       faults = one.faults;
-      lanes = one.lanes;
+      hands = one.hands;
       files = one.files;
       next = λ y. subst (λ (image : Image). IsNext (Fact image p) s.next) (sym (one_image a b (same y))) (one.next y);
       next_chunk = λ y. subst (λ (image : Image). IsNextChunk image p s.next_chunk) (sym (one_image a b (same y))) (one.next_chunk y);
@@ -185,7 +185,7 @@ module _ (tells : Bool) (limits : Limits) (port : Port) (names : List ChunkName)
         whole = one.whole;
         records = one.records;
         faults = one.faults;
-        lanes = one.lanes;
+        hands = one.hands;
         files = one.files;
         next = λ y. (told y p s is below).0;
         next_chunk = λ y. (told y p s is below).1;

@@ -7,8 +7,7 @@ use Rattle.hr_base.specs.declared.name.ChunkName.{ChunkName}
 use Rattle.hr_base.specs.declared.name.Class.{Class}
 use Rattle.crash_law.specs.Accounts.{fresh_account}
 use Rattle.record_replay.specs.declared.play.Replayed.{Replayed}
-use Rattle.writer_chunks.specs.Lanes.{empty_lane}
-use Rattle.writer_files.specs.Stocks.{files_of, lane_of}
+use Rattle.writer_files.specs.Stocks.{HasNone, files_of}
 use Rattle.partition_writer.specs.Standing.{Beginning, IsBeginning, Standing, Stands}
 
 -- a writer can go on from these maps and numbers
@@ -31,7 +30,7 @@ pub record IsOpened (tells : Bool) (limits : Limits) (p : ℕ) (part : Replayed)
   pub maps : s.maps ≡ part.map.entries
   pub next : s.next ≡ part.next
   pub next_chunk : s.next_chunk ≡ chunk
-  pub lanes : (class : Class) → lane_of s.stock class ≡ empty_lane class
+  pub hands : HasNone s.stock
   pub files : tells ≡ true → (name : ChunkName) → files_of s.stock name ≡ None
   pub account : tells ≡ true → (b : Beginning) → IsBeginning p b → b.maps ≡ s.maps → b.first ≡ s.next → b.first_chunk ≡ s.next_chunk
       → Stands s b (fresh_account s.maps)

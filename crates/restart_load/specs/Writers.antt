@@ -11,8 +11,7 @@ use Rattle.dir_files.specs.Images.{Image}
 use Rattle.crash_law.specs.Accounts.{fresh_account}
 use Rattle.crash_law.specs.Restarts.{Fact}
 use Rattle.record_replay.specs.Replays.{IsNext}
-use Rattle.writer_chunks.specs.Lanes.{empty_lane}
-use Rattle.writer_files.specs.Stocks.{files_of, lane_of}
+use Rattle.writer_files.specs.Stocks.{HasNone, files_of}
 use Rattle.partition_writer.specs.declared.writer.Writer.{Writer}
 use Rattle.partition_writer.specs.Standing.{Beginning, Standing, Stands, writer_kind}
 use Rattle.partition_writer.specs.WriterViews.{standing}
@@ -61,7 +60,7 @@ pub record IsResumed (tells : Bool) (image : Image) (p : ℕ) (s : Standing) : T
   pub whole : s.lost ≡ false
   pub records : s.records ≡ []
   pub faults : s.faults ≡ 0
-  pub lanes : (class : Class) → lane_of s.stock class ≡ empty_lane class
+  pub hands : HasNone s.stock
   pub files : tells ≡ true → (name : ChunkName) → files_of s.stock name ≡ None
   pub next : tells ≡ true → IsNext (Fact image p) s.next
   pub next_chunk : tells ≡ true → IsNextChunk image p s.next_chunk

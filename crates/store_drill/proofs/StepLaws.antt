@@ -83,7 +83,7 @@ abbrev pub piece_for : Class → ℕ → Piece
 piece_for class len = record { class = class; len = len }
 
 place_by_room : (s : Standing) (class : Class) (len : ℕ) → has_place s.limits (numbers_of s) (piece_for class len) ≡ has_room s class len
-place_by_room s class len = room_by_size (lane_of s.stock class).taking len (limit_of s.limits class)
+place_by_room s class len = room_by_size (taking_in s.stock class) len (limit_of s.limits class)
 
 -- a writer refuses for want of a number as a line counts it
 pub spent_for_writer : (s : Standing) (class : Class) (len : ℕ) → spent_for s.limits (numbers_of s) (Some (piece_for class len)) ≡ spent_by s class len
@@ -102,8 +102,8 @@ sized None size is some = absurd (omega (arith, is, some))
 sized (Some chunk) size is some = ap Some is
 
 -- one lane changes
-sizes_with : (old new : Stock) (class : Class) (size : ℕ) → KeepsOthers class old new → option_map (λ (chunk : Chunk). chunk.size) (lane_of new class).taking ≡ Some size
-    → (c : Class) → option_map (λ (chunk : Chunk). chunk.size) (lane_of new c).taking ≡ with_size (λ (d : Class). option_map (λ (chunk : Chunk). chunk.size) (lane_of old d).taking) class size c
+sizes_with : (old new : Stock) (class : Class) (size : ℕ) → KeepsOthers class old new → option_map (λ (chunk : Chunk). chunk.size) (taking_in new class) ≡ Some size
+    → (c : Class) → option_map (λ (chunk : Chunk). chunk.size) (taking_in new c) ≡ with_size (λ (d : Class). option_map (λ (chunk : Chunk). chunk.size) (taking_in old d)) class size c
 sizes_with old new Value size others is Value = is
 sizes_with old new Value size others is Tomb = ap (λ (lane : LaneState). option_map (λ (chunk : Chunk). chunk.size) lane.taking) (others Tomb (λ e. cc))
 sizes_with old new Value size others is class.Clear = ap (λ (lane : LaneState). option_map (λ (chunk : Chunk). chunk.size) lane.taking) (others class.Clear (λ e. cc))
@@ -133,12 +133,12 @@ numbers_written s t r writes =
     let class : Class = class_of_record r in
     let len : ℕ = length (spelling r) in
     let place : has_place s.limits (numbers_of s) (piece_for class len) ≡ has_room s class len = place_by_room s class len in
-    let size : ℕ = if has_room s class len then size_of (lane_of s.stock class).taking + len else len in
-    let sized' : option_map (λ (chunk : Chunk). chunk.size) (lane_of t.stock class).taking ≡ Some size =
-    sized (lane_of t.stock class).taking size writes.fills.stock.size (more_than (has_room s class len) (size_of (lane_of s.stock class).taking) len (spelling_some r)) in
+    let size : ℕ = if has_room s class len then size_of (taking_in s.stock class) + len else len in
+    let sized' : option_map (λ (chunk : Chunk). chunk.size) (taking_in t.stock class) ≡ Some size =
+    sized (taking_in t.stock class) size writes.fills.stock.size (more_than (has_room s class len) (size_of (taking_in s.stock class)) len (spelling_some r)) in
     let size_is : (if has_place s.limits (numbers_of s) (piece_for class len) then unwrap_or ((numbers_of s).sizes class) 0 + len else len) ≡ size =
     ap (λ (room : Bool). if room then unwrap_or ((numbers_of s).sizes class) 0 + len else len) place
-    ∙ ap (λ (n : ℕ). if has_room s class len then n + len else len) (size_or (lane_of s.stock class).taking) in
+    ∙ ap (λ (n : ℕ). if has_room s class len then n + len else len) (size_or (taking_in s.stock class)) in
     same_numbers (numbers_of t) (numbers_with s.limits (numbers_of s) (piece_for class len)) writes.notes.next
     (writes.fills.next_chunk ∙ ap (λ (room : Bool). number_after room s.next_chunk) (sym place))
     (λ c. sizes_with s.stock t.stock class size writes.fills.stock.others sized' c ∙ ap (λ (n : ℕ). with_size (numbers_of s).sizes class n c) (sym size_is))
@@ -166,7 +166,7 @@ taking_synced (Some chunk) (Some after) keeps = ap Some keeps.0.size
 
 pub numbers_synced : (s t : Standing) → Syncs s t → numbers_of t ≡ numbers_of s
 numbers_synced s t syncs =
-    same_numbers (numbers_of t) (numbers_of s) syncs.next syncs.next_chunk (λ c. taking_synced (lane_of s.stock c).taking (lane_of t.stock c).taking (syncs.taking c))
+    same_numbers (numbers_of t) (numbers_of s) syncs.next syncs.next_chunk (λ c. taking_synced (taking_in s.stock c) (taking_in t.stock c) (syncs.taking c))
 
 -- it was answered, and its reply printed where there was memory for it
 pub plays_answered : (tells : Bool) (line : Line) (s t : Standing) (text : List ℕ) (step : Step)

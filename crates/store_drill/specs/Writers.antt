@@ -32,7 +32,7 @@ HasMaps p maps s = s.maps ≡ maps
 
 -- what the next record of a writer is numbered by
 abbrev pub numbers_of : Standing → Numbers
-numbers_of s = record { next = s.next; next_chunk = s.next_chunk; sizes = λ class. option_map (λ chunk. chunk.size) (lane_of s.stock class).taking }
+numbers_of s = record { next = s.next; next_chunk = s.next_chunk; sizes = λ class. option_map (λ chunk. chunk.size) (taking_in s.stock class) }
 
 abbrev pub HasNumbers : ℕ → Numbers → Standing → Type 0
 HasNumbers p numbers s = numbers_of s ≡ numbers

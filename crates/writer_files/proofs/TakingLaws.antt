@@ -1,5 +1,5 @@
 -- Laws of the chunks that take records, one of each class at most.
-use Rattle.std.proofs.Common.{◌≡◌, ◌≢◌, Bool, true, false, List, [], ◌∷◌, ◌++◌, All, Option, Some, None, Result, Ok, Err, IfSome, refl, ap, sym, ◌∙◌, subst, append_assoc, append-nil}
+use Rattle.std.proofs.Common.{◌≡◌, ◌≢◌, ◌⊎◌, List, [], ◌∷◌, ◌++◌, All, Option, Some, None, Result, Ok, Err, IfSome, refl, ap, sym, ◌∙◌, subst, inl, inr, append_assoc, append-nil}
 use Rattle.std.specs.List.{AllZip}
 use Rattle.std.specs.Option.{option_to_list}
 use Rattle.hr_base.specs.declared.name.Class.{Class}
@@ -36,6 +36,17 @@ pub each_class : (R : Chunk → Chunk → Type 0) (old new : Takings) → EachTa
 each_class R old new each Value = each.values
 each_class R old new each Tomb = each.tombs
 each_class R old new each Clear = each.clears
+
+pub same_class_or_not : (a b : Class) → (a ≡ b) ⊎ (a ≢ b)
+same_class_or_not Value Value = inl refl
+same_class_or_not Value Tomb = inr (λ e. absurd cc)
+same_class_or_not Value Clear = inr (λ e. absurd cc)
+same_class_or_not Tomb Value = inr (λ e. absurd cc)
+same_class_or_not Tomb Tomb = inl refl
+same_class_or_not Tomb Clear = inr (λ e. absurd cc)
+same_class_or_not Clear Value = inr (λ e. absurd cc)
+same_class_or_not Clear Tomb = inr (λ e. absurd cc)
+same_class_or_not Clear Clear = inl refl
 
 -- ---- the chunk of one class, and those beside it
 

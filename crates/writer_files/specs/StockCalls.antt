@@ -83,9 +83,13 @@ pub record KeepsChunk (old new : Chunk) : Type 0 where
   pub size : new.size ≡ old.size
   pub torn : new.torn ≡ old.torn
 
--- each chunk stays what it is, with the records that it had
+-- those that take records stay
+abbrev pub KeepsTaking : Stock → Stock → Type 0
+KeepsTaking old new = (class : Class) → AllZip KeepsChunk (option_to_list (taking_in old class)) (option_to_list (taking_in new class))
+
+-- and the full ones
 pub record KeepsHands (old new : Stock) : Type 0 where
-  pub taking : (class : Class) → AllZip KeepsChunk (option_to_list (taking_in old class)) (option_to_list (taking_in new class))
+  pub taking : KeepsTaking old new
   pub full : AllZip KeepsChunk old.full new.full
 
 -- no file comes or goes, and a crash keeps of each what it kept before, or more

@@ -7,7 +7,7 @@ use Rattle.hr_base.specs.NameTests.{is_name}
 use Rattle.dir_files.specs.Files.{FileState, Files, Names, IsDurable}
 use Rattle.dir_files.specs.Ports.{Port, either_file}
 use Rattle.value_chunk.specs.Chunks.{Chunk}
-use Rattle.writer_files.specs.Hands.{Takings, of_class, taking_list, taking_fits, file_among, AreOnce, AreOut}
+use Rattle.writer_files.specs.Hands.{Takings, no_takings, of_class, taking_list, taking_fits, file_among, AreOnce, AreOut}
 
 pub record Stock : Type 0 where
   pub port : Port
@@ -48,6 +48,10 @@ pub record IsStock (stock : Stock) : Type 0 where
   pub front : (name : ChunkName) (file : FileState) → stock.port.held name ≡ Some file → file.front ≡ length file.bytes
   pub named : stock.fresh ≡ false → (name : ChunkName) (file : FileState) → files_of stock name ≡ Some file → file.named ≡ true
 
+-- no name
+abbrev pub no_names : Names
+no_names name = false
+
 -- no other name is lent at the port than those in hand and these
 abbrev pub LendsBut : Names → Stock → Type 0
 LendsBut names stock = (name : ChunkName) → stock.port.lent name ≡ true → (is_in_hand stock name || names name) ≡ true
@@ -69,6 +73,11 @@ pub record IsSynced (stock : Stock) : Type 0 where
 -- and no full chunk waits
 pub record IsSettled (stock : Stock) : Type 0 where
   pub synced : IsSynced stock
+  pub full : stock.full ≡ []
+
+-- no chunk is in hand
+pub record HasNone (stock : Stock) : Type 0 where
+  pub taking : stock.taking ≡ no_takings
   pub full : stock.full ≡ []
 
 -- all files are durable

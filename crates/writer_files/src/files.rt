@@ -26,8 +26,6 @@ pub struct WriterFiles<F: Folder> {
 
 impl<F: Folder> WriterFiles<F> {
     ghost use Rattle.std.specs.Prelude.{◌≢◌, ◌<◌, ◌||◌, [], false, Some, None, All, IfSome, IfNone, IsOk, OnOk, length, option_map, option_to_list};
-    ghost use Rattle.std.specs.List.{AllZip};
-    ghost use Rattle.std.specs.VecDeque.{deque_capacity, deque_len};
     ghost use Rattle.hr_base.specs.declared.limits.TheConstants.{MAX_CHUNK_LIMIT};
     ghost use Rattle.hr_base.specs.declared.name.Class.{Class};
     ghost use Rattle.hr_base.specs.declared.name.ChunkName.{ChunkName};
@@ -35,13 +33,10 @@ impl<F: Folder> WriterFiles<F> {
     ghost use Rattle.hr_base.specs.NameTests.{is_name};
     ghost use Rattle.dir_files.specs.Faults.{is_fault};
     ghost use Rattle.dir_files.specs.Files.{ChangesAt, FileState, IsDurable, IsFile, Names};
-    ghost use Rattle.dir_files.specs.PortCalls.{CountsCall, GivesFile, LeavesPort};
-    ghost use Rattle.dir_files.specs.Ports.{IsEmptyPort, SamePort};
-    ghost use Rattle.dir_files.specs.PortStates.{IsGivenBack};
-    ghost use Rattle.value_chunk.specs.Chunks.{IsOneRecord, IsSealed};
-    ghost use Rattle.writer_files.specs.Hands.{no_takings};
-    ghost use Rattle.writer_files.specs.HandCalls.{IsMarkedFrom};
-    ghost use Rattle.writer_files.specs.Stocks.{files_of, in_hand, is_in_hand, taking_in, takes, AllDurable, IsSynced, LendsBut};
+    ghost use Rattle.dir_files.specs.PortCalls.{CountsCall, LeavesPort};
+    ghost use Rattle.dir_files.specs.Ports.{IsEmptyPort};
+    ghost use Rattle.value_chunk.specs.Chunks.{IsOneRecord};
+    ghost use Rattle.writer_files.specs.Stocks.{files_of, in_hand, is_in_hand, taking_in, takes, AllDurable, HasNone, IsSynced, LendsBut};
     ghost use Rattle.writer_files.specs.StockCalls.{AppendsAny, BeginsAny, BeginsFile, EachRises, ExtendsFile, HandsOut, KeepsHands};
     ghost use Rattle.writer_files.specs.StockViews.{stock_port, stock};
 
@@ -49,7 +44,7 @@ impl<F: Folder> WriterFiles<F> {
     pub fn new(alloc: Global, port: F) -> WriterFiles<F>
         requires { F.tells ≡ true → IsEmptyPort (F.port port) }
         ensures port { stock_port result ≡ port }
-        ensures none { ((stock result).taking ≡ no_takings) × ((stock result).full ≡ []) }
+        ensures hands { HasNone (stock result) }
         ensures fresh { (stock result).fresh ≡ false }
         ensures files { F.tells ≡ true → (name : ChunkName) → files_of (stock result) name ≡ None }
         ensures lends { F.tells ≡ true → (others : Names) → LendsBut others (stock result) }

@@ -3,7 +3,7 @@ use Rattle.hr_base.specs.declared.limits.TheConstants.{MAX_CHUNK_LIMIT}
 use Rattle.hr_base.specs.declared.name.ChunkName.{ChunkName}
 use Rattle.dir_files.specs.declared.folder.FolderRefusal.{FolderRefusal}
 use Rattle.dir_files.specs.declared.folder.FolderRefusal.TheVariants.{Fault}
-use Rattle.writer_files.specs.Stocks.{files_of}
+use Rattle.writer_files.specs.Stocks.{files_of, no_names}
 use Rattle.writer_files.specs.StockViews.{stock}
 use Rattle.writer_files.specs.StockCalls.{ExtendsFile}
 use Rattle.partition_writer.specs.Standing.{chosen}
@@ -54,3 +54,6 @@ returns-clause-below g c = λ tells whole numbered below.
     (c.append.ensures.files tells) name (search rules) in
     below_after (files_of (stock c.make_room.new.files)) (files_of (stock c.append.new.self)) name c.args.bytes.now c.append.result c.make_room.new.next_chunk
     (c.make_room.ensures.below tells (ok_no_fault _ (search rules)) numbered below) extends
+
+pub returns-clause-lends : goal.returns-clause-lends
+returns-clause-lends g c told = c.append.ensures.lends told no_names (c.make_room.ensures.lends told)

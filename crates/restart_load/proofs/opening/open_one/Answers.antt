@@ -19,7 +19,7 @@ returns-clause-opened g c =
       maps = made.maps;
       next = made.next;
       next_chunk = made.next_chunk;
-      lanes = made.lanes;
+      hands = made.hands;
       files = made.files;
       account = λ y b is maps first chunk.
           subst (λ (m : Entries). Stands (standing c.resume.result) b (fresh_account m)) maps

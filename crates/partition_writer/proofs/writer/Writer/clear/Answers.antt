@@ -39,6 +39,7 @@ invariant_of-self g c = record {
   own = c.write.new.self.own;
   ready = c.write.new.self.ready;
   below = c.write.new.self.below;
+  lends = c.write.new.self.lends;
   unlost = c.write.new.self.unlost;
   lengths = clear_limits c.write.new.self.map.entries c.clear.new.self.entries c.args.prefix c.write.new.self.lengths (search rules);
 }

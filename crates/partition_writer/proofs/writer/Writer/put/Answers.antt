@@ -32,6 +32,7 @@ invariant_of-self-2 g c = record {
   own = c.write.new.self.own;
   ready = c.write.new.self.ready;
   below = c.write.new.self.below;
+  lends = c.write.new.self.lends;
   unlost = c.write.new.self.unlost;
   lengths = put_limits c.write.new.self.map.entries c.set.new.self.entries c.args.prefix c.args.key.now c.args.value.now c.write.new.self.lengths (search rules) c.requires.key c.requires.value;
 }

@@ -40,6 +40,7 @@ invariant_of-self g c = record {
   own = c.write.new.self.own;
   ready = c.write.new.self.ready;
   below = c.write.new.self.below;
+  lends = c.write.new.self.lends;
   unlost = c.write.new.self.unlost;
   lengths = take_limits c.write.new.self.map.entries c.take.new.self.entries (key_at c.args.prefix c.args.key.now) c.write.new.self.lengths (search rules);
 }

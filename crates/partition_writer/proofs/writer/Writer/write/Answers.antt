@@ -105,6 +105,7 @@ invariant_of-self-in-Ok g c =
       own = subst (λ (p : Partition). NamesOwn p (stock c.store-stored.new.files)) partition c.store-stored.ensures.own;
       ready = λ running. c.store-stored.ensures.ready (ok_no_fault _ (search rules));
       below = λ tells running. c.store-stored.ensures.below tells (ok_no_fault _ (search rules)) (ap (λ (n : ChunkName). n.number.0) c.next_name-next.ensures) (c.args.self.now.below tells running);
+      lends = c.store-stored.ensures.lends;
       unlost = c.args.self.now.unlost;
       lengths = c.args.self.now.lengths;
     }
@@ -127,6 +128,7 @@ invariant_of-self-in-Err-Memory g c =
       own = subst (λ (p : Partition). NamesOwn p (stock c.store-stored.new.files)) partition c.store-stored.ensures.own;
       ready = λ running. c.store-stored.ensures.ready (memory_no_fault _ (search rules));
       below = λ tells running. c.store-stored.ensures.below tells (memory_no_fault _ (search rules)) (ap (λ (n : ChunkName). n.number.0) c.next_name-next.ensures) (c.args.self.now.below tells running);
+      lends = c.store-stored.ensures.lends;
       unlost = c.args.self.now.unlost;
       lengths = c.args.self.now.lengths;
     }
@@ -149,6 +151,7 @@ invariant_of-self-in-Err-Fault g c =
       own = subst (λ (p : Partition). NamesOwn p (stock c.store-stored.new.files)) partition c.store-stored.ensures.own;
       ready = λ running. absurd (some_halted _ running);
       below = λ tells running. absurd (some_halted _ running);
+      lends = c.store-stored.ensures.lends;
       unlost = λ running. absurd (some_halted _ running);
       lengths = c.args.self.now.lengths;
     }
