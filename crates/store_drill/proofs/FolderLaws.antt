@@ -20,7 +20,7 @@ use Rattle.crash_law.proofs.WriterLaws.{stand_exact, stand_survives}
 use Rattle.record_replay.specs.Replays.{IsNext}
 use Rattle.script_text.specs.declared.line.Line.{Line}
 use Rattle.value_chunk.specs.Chunks.{Chunk}
-use Rattle.writer_chunks.specs.Lanes.{LaneState}
+use Rattle.partition_writer.proofs.FileLaws.{none_in}
 use Rattle.writer_files.specs.Stocks.{files_of}
 use Rattle.partition_writer.specs.Standing.{Beginning, Standing, Stands, all_files, start_of, written}
 use Rattle.restart_load.specs.Ends.{ended_of_restart}
@@ -145,7 +145,7 @@ have_started tells image limits writers begun limited = record {
   maps = have_maps writers;
   numbers = λ p s is.
       same_numbers (numbers_of s) (numbers_at (started writers) p) (sym (ap next_in is)) (sym (ap next_chunk_in is))
-      (λ class. ap (λ (lane : LaneState). option_map (λ (chunk : Chunk). chunk.size) lane.taking) ((begun p s is).lanes class));
+      (λ class. ap (λ (taking : Option Chunk). option_map (λ (chunk : Chunk). chunk.size) taking) (none_in s.stock (begun p s is).hands class));
 }
 
 abbrev begins_in : Image → Option Standing → Beginning

@@ -24,8 +24,8 @@ use Rattle.script_text.specs.declared.line.Line.TheVariants.{Put, Remove, Clear,
 use Rattle.script_text.specs.declared.line.Mode.{Mode}
 use Rattle.script_text.specs.Lines.{IsLine, partition_of}
 use Rattle.script_text.specs.Replies.{maps_after_line, text_after}
-use Rattle.writer_chunks.specs.Lanes.{LaneState, taking_fits}
-use Rattle.writer_files.specs.Stocks.{Stock, lane_of}
+use Rattle.writer_files.specs.Hands.{taking_fits}
+use Rattle.writer_files.specs.Stocks.{Stock, taking_in}
 use Rattle.writer_files.specs.StockCalls.{KeepsChunk, KeepsOthers}
 use Rattle.partition_writer.specs.declared.refusal.WriteRefusal.{WriteRefusal}
 use Rattle.partition_writer.specs.declared.refusal.WriteRefusal.TheVariants.{Memory, DiskFault, Halted}
@@ -101,17 +101,17 @@ sized : (taking : Option Chunk) (size : ℕ) → size_of taking ≡ size → 0 <
 sized None size is some = absurd (omega (arith, is, some))
 sized (Some chunk) size is some = ap Some is
 
--- one lane changes
+-- the chunk of one class changes
 sizes_with : (old new : Stock) (class : Class) (size : ℕ) → KeepsOthers class old new → option_map (λ (chunk : Chunk). chunk.size) (taking_in new class) ≡ Some size
     → (c : Class) → option_map (λ (chunk : Chunk). chunk.size) (taking_in new c) ≡ with_size (λ (d : Class). option_map (λ (chunk : Chunk). chunk.size) (taking_in old d)) class size c
 sizes_with old new Value size others is Value = is
-sizes_with old new Value size others is Tomb = ap (λ (lane : LaneState). option_map (λ (chunk : Chunk). chunk.size) lane.taking) (others Tomb (λ e. cc))
-sizes_with old new Value size others is class.Clear = ap (λ (lane : LaneState). option_map (λ (chunk : Chunk). chunk.size) lane.taking) (others class.Clear (λ e. cc))
-sizes_with old new Tomb size others is Value = ap (λ (lane : LaneState). option_map (λ (chunk : Chunk). chunk.size) lane.taking) (others Value (λ e. cc))
+sizes_with old new Value size others is Tomb = ap (λ (taking : Option Chunk). option_map (λ (chunk : Chunk). chunk.size) taking) (others Tomb (λ e. cc))
+sizes_with old new Value size others is class.Clear = ap (λ (taking : Option Chunk). option_map (λ (chunk : Chunk). chunk.size) taking) (others class.Clear (λ e. cc))
+sizes_with old new Tomb size others is Value = ap (λ (taking : Option Chunk). option_map (λ (chunk : Chunk). chunk.size) taking) (others Value (λ e. cc))
 sizes_with old new Tomb size others is Tomb = is
-sizes_with old new Tomb size others is class.Clear = ap (λ (lane : LaneState). option_map (λ (chunk : Chunk). chunk.size) lane.taking) (others class.Clear (λ e. cc))
-sizes_with old new class.Clear size others is Value = ap (λ (lane : LaneState). option_map (λ (chunk : Chunk). chunk.size) lane.taking) (others Value (λ e. cc))
-sizes_with old new class.Clear size others is Tomb = ap (λ (lane : LaneState). option_map (λ (chunk : Chunk). chunk.size) lane.taking) (others Tomb (λ e. cc))
+sizes_with old new Tomb size others is class.Clear = ap (λ (taking : Option Chunk). option_map (λ (chunk : Chunk). chunk.size) taking) (others class.Clear (λ e. cc))
+sizes_with old new class.Clear size others is Value = ap (λ (taking : Option Chunk). option_map (λ (chunk : Chunk). chunk.size) taking) (others Value (λ e. cc))
+sizes_with old new class.Clear size others is Tomb = ap (λ (taking : Option Chunk). option_map (λ (chunk : Chunk). chunk.size) taking) (others Tomb (λ e. cc))
 sizes_with old new class.Clear size others is class.Clear = is
 
 pub same_numbers : (a b : Numbers) → a.next ≡ b.next → a.next_chunk ≡ b.next_chunk → ((c : Class) → a.sizes c ≡ b.sizes c) → a ≡ b

@@ -7,7 +7,7 @@ use Rattle.hr_base.specs.declared.limits.TheConstants.{CHUNK_NO_END, SEQ_END}
 use Rattle.hr_base.specs.declared.name.ChunkName.{ChunkName}
 use Rattle.dir_files.specs.Files.{FileState, Files}
 use Rattle.crash_law.specs.Accounts.{Account}
-use Rattle.writer_files.specs.Stocks.{files_of, lane_of}
+use Rattle.writer_files.specs.Stocks.{files_of, taking_in}
 use Rattle.partition_writer.specs.Standing.{Standing, Beginning, Stands}
 use Rattle.restart_load.specs.Writers.{EachIs, HasLimits}
 use Rattle.store_drill.specs.Numbers.{Numbers, SessionStart, numbers_at}

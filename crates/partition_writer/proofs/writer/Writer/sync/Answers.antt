@@ -80,3 +80,6 @@ returns-in-Err-Fault-clause-account g c = λ tells b a h.
 
 pub returns-in-Some-clause-files : goal.returns-in-Some-clause-files
 returns-in-Some-clause-files g c = λ tells name. rises_same _
+
+pub give_full-requires-clause-lends : goal.give_full-requires-clause-lends
+give_full-requires-clause-lends g c told = c.sync.ensures.lends told no_names (c.args.self.now.lends told)
