@@ -1,5 +1,5 @@
 -- Laws of a partition's files: the writer's own, and those that were found.
-use Rattle.std.proofs.Common.{◌≡◌, ◌≢◌, ℕ, ◌+◌, ◌<◌, ◌≤◌, Bool, true, false, List, length, Option, Some, None, refl, ap, sym, ◌∙◌, subst, inl, inr, arith, ◌⊎◌, IfSome}
+use Rattle.std.proofs.Common.{◌≡◌, ℕ, ◌<◌, ◌≤◌, true, false, List, length, Option, Some, None, refl, ap, ◌∙◌, subst, inl, inr, arith, ◌⊎◌, IfSome}
 use Rattle.std.specs.Option.{option_map}
 use Rattle.std.proofs.lemmas.Bool.{cases_Bool, false≢true}
 use Rattle.hr_base.specs.declared.name.Class.{Class}
@@ -7,16 +7,14 @@ use Rattle.hr_base.specs.declared.name.Class.TheVariants.{Value, Tomb, Clear}
 use Rattle.hr_base.specs.declared.name.ChunkName.{ChunkName}
 use Rattle.hr_base.specs.declared.name.Partition.{Partition}
 use Rattle.hr_base.specs.Names.{class_of_kind}
-use Rattle.hr_base.specs.NameTests.{is_name}
 use Rattle.hr_base.proofs.NameTestLaws.{is_name-same}
-use Rattle.dir_files.specs.Files.{FileState, Files, ChangesAt, SameAt, IsFile, IsDurable, KeepsMore, Rises}
+use Rattle.dir_files.specs.Files.{FileState, Files, ChangesAt, IsFile, IsDurable, Rises}
 use Rattle.dir_files.specs.Images.{Image, durable_files as found_files}
 use Rattle.dir_files.specs.Ports.{either_file}
 use Rattle.dir_files.proofs.JoinLaws.{either_alone, rises_same}
 use Rattle.value_chunk.specs.Chunks.{Chunk}
 use Rattle.writer_files.specs.Hands.{Takings, no_takings, of_class, taking_fits}
 use Rattle.writer_files.specs.Stocks.{HasNone, Stock, is_chunk_of, taking_in, taking_of, takes}
-use Rattle.crash_law.specs.Growth.{file_or_new}
 use Rattle.partition_writer.specs.Standing.{Beginning, IsBeginning, IsOwnName, all_files, chosen, name_or, writer_kind}
 use Rattle.partition_writer.specs.Storing.{NamesOwn}
 

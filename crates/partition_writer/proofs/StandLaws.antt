@@ -1,24 +1,23 @@
 -- What a writer stands for after each call.
-use Rattle.std.proofs.Common.{◌≡◌, ◌≢◌, ◌⊎◌, ℕ, ◌+◌, ◌<◌, ◌≤◌, Bool, true, false, List, [], ◌∷◌, ◌++◌, length, take, Option, Some, None, IfSome, option_to_list, refl, ap, sym, ◌∙◌, subst, inl, inr, arith}
+use Rattle.std.proofs.Common.{◌≡◌, ◌≢◌, ◌⊎◌, ℕ, ◌+◌, ◌<◌, ◌≤◌, true, false, List, [], length, take, Option, Some, None, option_to_list, refl, ap, sym, ◌∙◌, subst, inl, inr, arith}
 use Rattle.std.specs.List.{AllZip}
 use Rattle.std.specs.Option.{option_map}
 use Rattle.std.proofs.lemmas.Bool.{false≢true}
-use Rattle.hr_base.specs.declared.limits.TheConstants.{MAX_CHUNK_LIMIT, MAX_FILE_LEN, MAX_RECORD_LEN}
+use Rattle.hr_base.specs.declared.limits.TheConstants.{MAX_FILE_LEN, MAX_RECORD_LEN}
 use Rattle.hr_base.specs.declared.name.Class.{Class}
 use Rattle.hr_base.specs.declared.name.ChunkName.{ChunkName}
 use Rattle.hr_base.specs.declared.name.Partition.{Partition}
 use Rattle.hr_base.specs.Names.{class_of_kind}
 use Rattle.hr_base.specs.NameTests.{is_name}
 use Rattle.hr_base.proofs.NameTestLaws.{same_name_or_not}
-use Rattle.dir_files.specs.Files.{FileState, Files, ChangesAt, SameAt, IsFile, IsDurable, Rises, new_file, with_bytes}
-use Rattle.dir_files.specs.Images.{Image, durable_files as found_files}
+use Rattle.dir_files.specs.Files.{FileState, Files, ChangesAt, SameAt, IsFile, Rises, with_bytes}
+use Rattle.dir_files.specs.Images.{durable_files as found_files}
 use Rattle.dir_files.specs.Ports.{either_file}
 use Rattle.record_format.specs.declared.record.Record.{Record}
 use Rattle.record_format.specs.declared.record.Record.TheVariants as record_of
-use Rattle.record_format.specs.Spelling.{IsRecord, class_of_record, key_of, seq_of, spelling, value_of}
-use Rattle.record_format.specs.Splits.{IsOfClass}
+use Rattle.record_format.specs.Spelling.{IsRecord, class_of_record, seq_of, spelling}
 use Rattle.record_format.proofs.SplitLaws.{spelling_length}
-use Rattle.value_chunk.specs.Chunks.{Chunk, fits}
+use Rattle.value_chunk.specs.Chunks.{Chunk}
 use Rattle.writer_files.specs.StockCalls.{EachRises}
 use Rattle.writer_files.specs.Stocks.{Stock, files_of, taking_in, taking_of, is_chunk_of, AllDurable}
 use Rattle.writer_files.specs.StockCalls.{KeepsChunk, KeepsTaking}
@@ -27,8 +26,8 @@ use Rattle.crash_law.specs.Commands.{Command, command_of, is_written, maps_after
 use Rattle.crash_law.specs.Crashes.{PartSurvives}
 use Rattle.crash_law.specs.Restarts.{RestartsAs}
 use Rattle.crash_law.specs.Growth.{file_or_new, MayBeNew, PartRises}
-use Rattle.crash_law.specs.Placed.{Placed, IsPlaced}
-use Rattle.crash_law.specs.Writers.{AppendsRecord, BeginsFrom, CreatesFile, KeepsRecords, LosesRecord, NotesRecord, StandsFor, SyncsRecords, TakesNew, Written}
+use Rattle.crash_law.specs.Placed.{IsPlaced}
+use Rattle.crash_law.specs.Writers.{AppendsRecord, KeepsRecords, NotesRecord, StandsFor, TakesNew}
 use Rattle.crash_law.proofs.WriterLaws.{stand_begun, stand_appended, stand_torn, stand_lost, stand_risen, stand_new, stand_synced, stand_unwritten, stand_whole_in, stand_survives, stand_exact}
 use Rattle.crash_law.proofs.PartLaws.{part_survives, part_restarts}
 use Rattle.partition_writer.specs.Standing.{Beginning, HoldsTail, IsBeginning, IsOwnName, Standing, Stands, all_files, chunk_for, limit_of, next_name, placed_in, start_of, written, writer_kind}

@@ -1,7 +1,7 @@
 -- What the chunks that take records are after a chunk was begun, and after a record was appended.
-use Rattle.std.proofs.Common.{◌≡◌, ◌≢◌, ◌⊎◌, ℕ, ◌+◌, ◌<◌, ◌≤◌, Bool, true, false, All, is_some, ◌||◌, List, [], ◌∷◌, ◌++◌, length, take, Option, Some, None, IfSome, IsSomeAnd, OnOk, Result, Ok, Err, option_map, refl, ap, sym, ◌∙◌, subst, inl, inr, arith, option_to_list, if◌then◌else◌}
+use Rattle.std.proofs.Common.{◌≡◌, ◌≢◌, ◌⊎◌, ℕ, ◌+◌, ◌<◌, Bool, true, false, All, is_some, ◌||◌, List, [], ◌∷◌, ◌++◌, length, take, Option, Some, None, IfSome, IsSomeAnd, OnOk, Result, Ok, Err, option_map, refl, ap, sym, ◌∙◌, subst, inl, inr, arith, option_to_list, if◌then◌else◌}
 use Rattle.std.specs.List.{AllZip}
-use Rattle.std.proofs.lemmas.Bool.{cases_Bool, false≢true}
+use Rattle.std.proofs.lemmas.Bool.{false≢true}
 use Rattle.hr_base.specs.declared.name.Class.{Class}
 use Rattle.hr_base.specs.declared.name.ChunkName.{ChunkName}
 use Rattle.hr_base.specs.declared.name.Partition.{Partition}
@@ -13,14 +13,14 @@ use Rattle.dir_files.specs.declared.folder.FolderRefusal.TheVariants.{Memory, Fa
 use Rattle.dir_files.specs.Files.{FileState, Files, ChangesAt, SameAt, IsDurable, IsFile, Rises}
 use Rattle.value_chunk.specs.Chunks.{Chunk}
 use Rattle.value_chunk.specs.Calls.{Appends, IsTold, begun}
-use Rattle.writer_files.specs.Hands.{Takings, no_takings, of_class, taking_fits, taking_list, file_among}
+use Rattle.writer_files.specs.Hands.{Takings, of_class, taking_fits, taking_list, file_among}
 use Rattle.writer_files.specs.HandCalls.{GainsFull}
 use Rattle.std.proofs.lemmas.List.Elements.{All-tail}
 use Rattle.dir_files.specs.Ports.{either_file}
 use Rattle.writer_files.specs.Stocks.{AllDurable, HasNone, IsSettled, IsSynced, LendsBut, no_names, Stock, files_of, in_hand, is_chunk_of, taking_in, taking_of, takes}
 use Rattle.writer_files.specs.StockCalls.{AppendsAny, BeginsAny, EachRises, Extends, ExtendsFile, HandsOut, KeepsChunk, KeepsOthers, KeepsTaking}
 use Rattle.writer_files.proofs.TakingLaws.{same_class_or_not}
-use Rattle.partition_writer.specs.Standing.{chosen, name_or, writer_kind}
+use Rattle.partition_writer.specs.Standing.{chosen, writer_kind}
 use Rattle.partition_writer.specs.Storing.{AddsEmpty, Fills, FillsUp, IsBelow, IsNamedFor, IsUntorn, NamesOwn, StoresIn, size_of, without_offset}
 use Rattle.dir_files.proofs.JoinLaws.{no_some}
 use Rattle.partition_writer.proofs.FileLaws.{class_of_writer_kind, some_same}

@@ -1,8 +1,8 @@
 -- How a record comes into its chunk's file.
-use Rattle.std.proofs.Common.{◌≡◌, ◌≢◌, ℕ, ◌+◌, ◌<◌, ◌≤◌, Bool, true, false, List, length, take, Option, Some, None, refl, ap, sym, ◌∙◌, subst, inl, inr, arith, ◌⊎◌}
+use Rattle.std.proofs.Common.{◌≡◌, ◌≢◌, ℕ, ◌+◌, ◌≤◌, true, List, length, Option, Some, None, ap, sym, ◌∙◌, subst, inl, inr, arith, ◌⊎◌}
 use Rattle.hr_base.specs.declared.limits.TheConstants.{MAX_CHUNK_LIMIT, MAX_FILE_LEN, MAX_RECORD_LEN}
 use Rattle.hr_base.specs.declared.name.ChunkName.{ChunkName}
-use Rattle.dir_files.specs.Files.{FileState, Files, ChangesAt, SameAt, new_file, with_bytes}
+use Rattle.dir_files.specs.Files.{FileState, Files, SameAt, new_file, with_bytes}
 use Rattle.value_chunk.specs.Chunks.{fits}
 use Rattle.writer_files.specs.StockCalls.{Extends}
 use Rattle.crash_law.specs.Growth.{file_or_new}

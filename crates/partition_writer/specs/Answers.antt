@@ -1,5 +1,5 @@
 -- What the answers of a writer's calls say of it.
-use Rattle.std.specs.Prelude.{◌≡◌, ◌≢◌, ◌⊎◌, ℕ, ◌+◌, Bool, true, false, List, [], ◌∷◌, ◌++◌, length, Option, Some, None, Result, Ok, Err, if◌then◌else◌}
+use Rattle.std.specs.Prelude.{◌≡◌, ◌⊎◌, ℕ, ◌+◌, true, List, [], ◌∷◌, ◌++◌, length, Result, Ok, Err}
 use Rattle.hr_base.specs.declared.name.Class.{Class}
 use Rattle.hr_base.specs.Entries.{Entries}
 use Rattle.record_format.specs.declared.record.Record.{Record}

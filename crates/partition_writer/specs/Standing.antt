@@ -1,5 +1,5 @@
 -- A writer as contracts see it, and what it stands for.
-use Rattle.std.specs.Prelude.{◌≡◌, ℕ, ◌<◌, ◌≤◌, Bool, true, nat_le, List, length, Contains, Option, Some, None, option_map, if◌then◌else◌}
+use Rattle.std.specs.Prelude.{◌≡◌, ℕ, ◌<◌, ◌≤◌, Bool, true, nat_le, List, length, Contains, Option, Some, None, if◌then◌else◌}
 use Rattle.hr_base.specs.declared.limits.Limits.{Limits}
 use Rattle.hr_base.specs.declared.limits.TheConstants.{SEQ_END, CHUNK_NO_END}
 use Rattle.hr_base.specs.declared.name.Class.{Class}

@@ -7,7 +7,6 @@ use Rattle.hr_base.specs.NameTests.{is_name}
 use Rattle.hr_base.proofs.NameTestLaws.{is_name-same, is_name-other, is_name-true, is_name-false}
 use Rattle.dir_files.specs.Files.{FileState, Files, ChangesAt, SameAt, KeepsMore, Rises}
 use Rattle.dir_files.specs.Ports.{either_file}
-use Rattle.dir_files.proofs.JoinLaws.{rises_same}
 use Rattle.value_chunk.specs.Chunks.{Chunk}
 use Rattle.writer_files.specs.Hands.{file_among, AreOnce}
 

@@ -4,7 +4,7 @@ use Rattle.std.specs.List.{AllZip}
 use Rattle.std.proofs.lemmas.Bool.{cases_Bool, false≢true}
 use Rattle.hr_base.specs.declared.name.ChunkName.{ChunkName}
 use Rattle.hr_base.specs.NameTests.{is_name}
-use Rattle.hr_base.proofs.NameTestLaws.{is_name-true, is_name-false, same_name_or_not}
+use Rattle.hr_base.proofs.NameTestLaws.{is_name-true, is_name-false}
 use Rattle.dir_files.specs.Files.{FileState, IsFile, named_file, new_file}
 use Rattle.dir_files.specs.Ports.{Port, SamePort, Creates, MayCreate, SyncsNames, Gives, can_be_fixed}
 use Rattle.value_chunk.specs.Chunks.{Chunk}
@@ -150,7 +150,8 @@ pub outs_given : (p q : Port) (name : ChunkName) (file : FileState) → Gives p 
 outs_given p q name file gives [] none out = tt
 outs_given p q name file gives (c ∷ cs) none out = elim (cases_Bool (is_name c.name name)) [
   | inl here ↦ absurd (let e : Some c.file ≡ None = sym (file_among-here c cs name here) ∙ none in cc)
-  | inr past ↦
-      (out_given p q name file gives c (λ same. is_name-false c.name name past same) out.0,
-          outs_given p q name file gives cs (sym (file_among-past c cs name past) ∙ none) out.1)
+  | inr past ↦ (
+    out_given p q name file gives c (λ same. is_name-false c.name name past same) out.0,
+    outs_given p q name file gives cs (sym (file_among-past c cs name past) ∙ none) out.1,
+  )
 ]

@@ -1,5 +1,5 @@
 -- What each call makes of a stock and of its files.
-use Rattle.std.proofs.Common.{◌≡◌, ◌≢◌, ◌⊎◌, ℕ, Bool, true, false, ◌||◌, ◌&&◌, not, List, [], ◌∷◌, ◌++◌, All, length, take, drop, Option, Some, None, is_some, option_map, IfSome, IsSomeAnd, OnOk, Result, Ok, Err, if◌then◌else◌, refl, ap, sym, ◌∙◌, subst, inl, inr, arith, append_assoc, length-append}
+use Rattle.std.proofs.Common.{◌≡◌, ◌⊎◌, ℕ, Bool, true, false, ◌||◌, ◌&&◌, not, List, [], ◌∷◌, ◌++◌, All, length, take, drop, Option, Some, None, is_some, option_map, IfSome, OnOk, Result, Ok, Err, if◌then◌else◌, refl, ap, sym, ◌∙◌, subst, inl, inr, arith, append_assoc, length-append}
 use Rattle.std.specs.List.{AllZip}
 use Rattle.std.specs.Option.{option_to_list}
 use Rattle.std.proofs.lemmas.Bool.{cases_Bool, false≢true, and_parts}
@@ -15,17 +15,17 @@ use Rattle.dir_files.specs.declared.folder.FolderRefusal.TheVariants.{Memory, Fa
 use Rattle.dir_files.specs.Files.{FileState, Files, Names, ChangesAt, SameAt, IsFile, IsDurable, KeepsMore, Rises, new_file, with_bytes, synced_file, named_file}
 use Rattle.dir_files.specs.Ports.{Port, SamePort, Creates, MayCreate, SyncsNames, Gives, IsPort, either_file, can_be_fixed}
 use Rattle.dir_files.proofs.JoinLaws.{rises_same, keeps_same}
-use Rattle.value_chunk.specs.Chunks.{Chunk, IsChunk, fits}
-use Rattle.value_chunk.specs.Calls.{IsTold, IsChunkKept, Appends, BeginsAt, begun, synced_chunk, marked}
+use Rattle.value_chunk.specs.Chunks.{Chunk, fits}
+use Rattle.value_chunk.specs.Calls.{IsTold, IsChunkKept, Appends, BeginsAt, marked}
 use Rattle.writer_files.specs.Hands.{Takings, of_class, with_class, taking_list, taking_fits, file_among, AreOnce, AreOut, IsOut}
 use Rattle.writer_files.specs.HandCalls.{AppendsIn, EachTaking, GivesEach, GainsFull, JoinsFull, IsSyncedFrom, IsMarkedFrom, SyncsTakings}
 use Rattle.writer_files.specs.Stocks.{Stock, in_hand, is_in_hand, files_of, taking_in, AllDurable, IsStock, LendsBut}
-use Rattle.writer_files.specs.StockCalls.{BeginsFile, Extends, ExtendsFile, EachRises, KeepsChunk, KeepsHands, KeepsOthers, fresh_after}
+use Rattle.writer_files.specs.StockCalls.{Extends, ExtendsFile, EachRises, KeepsChunk, KeepsHands}
 use Rattle.writer_files.proofs.HandLaws.{Adds, SameName, RisesTo, adds_files, adds_once, adds_other, adds_same, none_base, once_base, found_alike, once_alike, rises_among, rises_beside, seen_changes, seen_same}
 use Rattle.writer_files.proofs.ListLaws.{all_back, all_front, zip_append, zip_weaker, zip_all, zip_same, zip_then}
 use Rattle.writer_files.proofs.OutLaws.{found_out, out_adds, out_base, out_created, out_may, out_new, out_one, out_same, out_synced, fixed_synced, outs, outs_given, outs_with, outs_zip, unlent_none}
-use Rattle.writer_files.proofs.SyncLaws.{kept_itself, kept_synced}
-use Rattle.writer_files.proofs.TakingLaws.{between, each_class, each_zip, list_now, with_here, with_other}
+use Rattle.writer_files.proofs.SyncLaws.{kept_synced}
+use Rattle.writer_files.proofs.TakingLaws.{between, each_class, each_zip, list_now}
 
 -- no file has bytes past its front
 abbrev pub HasFronts : Files → Type 0
@@ -855,6 +855,7 @@ module _ (s : Stock) (q : Port) (is : IsStock s) (gives : GivesEach s.port q (in
       other_true (is_in_hand s n) (others n) parts.1 (lends n parts.0)
 
   pub closed_calm : (n : ChunkName) → (q.foreign n ≡ false) × (q.gone n ≡ None)
-  closed_calm n =
-      (gives.foreign n ∙ given_foreign (s.port.foreign n) (is_in_hand s n) (s.port.lent n) (is.foreign n) (λ found. (found_out s.port (in_hand s) is.out n found).0),
-          gives.gone n ∙ none_either (is_in_hand s n) (s.port.gone n) (is.gone n))
+  closed_calm n = (
+    gives.foreign n ∙ given_foreign (s.port.foreign n) (is_in_hand s n) (s.port.lent n) (is.foreign n) (λ found. (found_out s.port (in_hand s) is.out n found).0),
+    gives.gone n ∙ none_either (is_in_hand s n) (s.port.gone n) (is.gone n),
+  )

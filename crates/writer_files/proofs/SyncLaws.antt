@@ -111,11 +111,17 @@ fixed_cases : (answer b : Bool) (tells : Bool) (c d : Chunk) → (tells ≡ true
 fixed_cases true true tells c d same is = is
 fixed_cases false false tells c d same is = is
 fixed_cases true false tells c d same is = record {
-  name = is.name; size = is.size; unsynced = is.unsynced; torn = is.torn;
+  name = is.name;
+  size = is.size;
+  unsynced = is.unsynced;
+  torn = is.torn;
   file = λ told. absurd (false≢true (sym (same told)));
 }
 fixed_cases false true tells c d same is = record {
-  name = is.name; size = is.size; unsynced = is.unsynced; torn = is.torn;
+  name = is.name;
+  size = is.size;
+  unsynced = is.unsynced;
+  torn = is.torn;
   file = λ told. absurd (false≢true (same told));
 }
 

@@ -1,5 +1,5 @@
 -- Laws of the chunks that take records, one of each class at most.
-use Rattle.std.proofs.Common.{◌≡◌, ◌≢◌, ◌⊎◌, List, [], ◌∷◌, ◌++◌, All, Option, Some, None, Result, Ok, Err, IfSome, refl, ap, sym, ◌∙◌, subst, inl, inr, append_assoc, append-nil}
+use Rattle.std.proofs.Common.{◌≡◌, ◌≢◌, ◌⊎◌, List, [], ◌++◌, All, Option, refl, ap, sym, ◌∙◌, subst, inl, inr, append_assoc, append-nil}
 use Rattle.std.specs.List.{AllZip}
 use Rattle.std.specs.Option.{option_to_list}
 use Rattle.hr_base.specs.declared.name.Class.{Class}
@@ -13,10 +13,11 @@ use Rattle.writer_files.proofs.ListLaws.{zip_append, all_front, all_back}
 pub all_parts : (P : Chunk → Type 0) (t now : Takings) → t ≡ now → All P (taking_list now) → All P (option_to_list t.values) × All P (option_to_list t.tombs) × All P (option_to_list t.clears)
 all_parts P t now view all =
     let here = subst (λ (x : Takings). All P (taking_list x)) (sym view) all in
-    let rest = all_back P (option_to_list t.values) (option_to_list t.tombs ++ option_to_list t.clears) here in
-    (all_front P (option_to_list t.values) (option_to_list t.tombs ++ option_to_list t.clears) here,
-        all_front P (option_to_list t.tombs) (option_to_list t.clears) rest,
-        all_back P (option_to_list t.tombs) (option_to_list t.clears) rest)
+    let rest = all_back P (option_to_list t.values) (option_to_list t.tombs ++ option_to_list t.clears) here in (
+      all_front P (option_to_list t.values) (option_to_list t.tombs ++ option_to_list t.clears) here,
+      all_front P (option_to_list t.tombs) (option_to_list t.clears) rest,
+      all_back P (option_to_list t.tombs) (option_to_list t.clears) rest,
+    )
 
 abbrev takings : Option Chunk → Option Chunk → Option Chunk → Takings
 takings v t c = record { values = v; tombs = t; clears = c }

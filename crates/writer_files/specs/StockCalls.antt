@@ -1,6 +1,6 @@
 -- What the calls make of a stock and of its files, by their answers. Clauses on files hold where the folder tells its
 -- content.
-use Rattle.std.specs.Prelude.{◌≡◌, ◌≢◌, ◌⊎◌, ℕ, Bool, true, List, ◌∷◌, length, take, Option, Some, None, IfSome, IsSomeAnd, option_to_list, Result, Ok, Err}
+use Rattle.std.specs.Prelude.{◌≡◌, ◌≢◌, ◌⊎◌, ℕ, Bool, true, List, ◌∷◌, length, take, Some, IfSome, IsSomeAnd, option_to_list, Result, Ok, Err}
 use Rattle.std.specs.List.{AllZip}
 use Rattle.hr_base.specs.declared.name.Class.{Class}
 use Rattle.hr_base.specs.declared.limits.TheConstants.{MAX_CHUNK_LIMIT}

@@ -90,7 +90,12 @@ impl<F: Folder> Fillings<F> {
 
     /// Appends one spelled record to the chunk of its class, and answers its offset. After `Fault` a prefix of it may
     /// stand behind the others.
-    pub(crate) fn append(&mut self, port: &mut F, class: Class, bytes: &[u8]) -> Result<u64, FolderRefusal>
+    pub(crate) fn append(
+        &mut self,
+        port: &mut F,
+        class: Class,
+        bytes: &[u8],
+    ) -> Result<u64, FolderRefusal>
         requires spelled { IsOneRecord class bytes.now }
         requires room { taking_fits (of_class self.old class) (length bytes.now) MAX_CHUNK_LIMIT ≡ true }
         requires whole { IfSome (of_class self.old class) (λ chunk. chunk.torn ≡ false) }

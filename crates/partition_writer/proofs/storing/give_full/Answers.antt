@@ -1,4 +1,4 @@
-use Rattle.std.proofs.Common.{◌≡◌, false, refl, sym, ap, ◌∙◌, subst}
+use Rattle.std.proofs.Common.{false, refl, ◌∙◌, subst}
 use Rattle.dir_files.specs.PortCalls.{CountsCall}
 use Rattle.writer_files.specs.Stocks.{no_names}
 use Rattle.writer_files.specs.StockViews.{stock, stock_port}

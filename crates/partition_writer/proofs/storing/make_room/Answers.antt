@@ -1,4 +1,3 @@
-use Rattle.std.proofs.Common.{rules}
 use Rattle.writer_files.specs.Stocks.{no_names}
 use Rattle.writer_files.specs.StockViews.{stock}
 use Rattle.partition_writer.proofs.StockLaws.{begun_own, refused_taking, same_own}

@@ -1,4 +1,4 @@
-use Rattle.std.proofs.Common.{rules, ap, sym, subst, ◌∙◌, ◌≡◌, ◌≢◌, length, Result, Err, OnOk}
+use Rattle.std.proofs.Common.{rules, sym, subst, ◌≢◌, length, Result, Err, OnOk}
 use Rattle.hr_base.specs.declared.limits.TheConstants.{MAX_CHUNK_LIMIT}
 use Rattle.hr_base.specs.declared.name.ChunkName.{ChunkName}
 use Rattle.dir_files.specs.declared.folder.FolderRefusal.{FolderRefusal}

@@ -1,4 +1,4 @@
-use Rattle.std.proofs.Common.{◌≡◌, ◌↔◌, ℕ, Some, None, true, ap, sym, subst, rules}
+use Rattle.std.proofs.Common.{◌≡◌, ◌↔◌, ℕ, Some, None, ap, sym, subst, rules}
 use Rattle.hr_base.specs.Entries.{Entries}
 use Rattle.record_format.specs.declared.record.Record.{Record}
 use Rattle.crash_law.specs.Accounts.{answered}

@@ -1,4 +1,4 @@
-use Rattle.std.proofs.Common.{◌≡◌, ◌↔◌, ◌∙◌, ℕ, Some, None, true, ap, subst, rules}
+use Rattle.std.proofs.Common.{◌≡◌, ◌↔◌, ◌∙◌, ℕ, Some, None, ap, subst, rules}
 use Rattle.hr_base.specs.Entries.{Entries, key_at}
 use Rattle.record_format.specs.declared.record.Record.{Record}
 use Rattle.crash_law.specs.Accounts.{answered}

@@ -1,4 +1,4 @@
-use Rattle.std.proofs.Common.{sym, rules, ◌∙◌, ◌≡◌, ap, Option, Some, None}
+use Rattle.std.proofs.Common.{sym, rules, ◌≡◌, Some}
 use Rattle.hr_base.specs.declared.name.Class.{Class}
 use Rattle.value_chunk.specs.Chunks.{Chunk}
 use Rattle.writer_files.specs.Stocks.{no_names, taking_in}

@@ -1,4 +1,4 @@
-use Rattle.std.proofs.Common.{rules, refl, ap}
+use Rattle.std.proofs.Common.{rules, refl}
 use Rattle.dir_files.proofs.JoinLaws.{rises_same}
 use Rattle.writer_files.specs.Stocks.{files_of, no_names}
 use Rattle.writer_files.specs.StockViews.{stock}

@@ -1,9 +1,9 @@
-use Rattle.std.proofs.Common.{sym, rules, arith, ap, ◌∙◌, ◌≡◌, ◌⊎◌, subst, length, take, List, ℕ, true, ◌++◌, ◌∷◌, [], ◌≤◌, refl, Result, Err, None}
+use Rattle.std.proofs.Common.{sym, rules, arith, ap, ◌∙◌, ◌≡◌, ◌⊎◌, subst, length, take, List, ℕ, ◌++◌, ◌∷◌, [], ◌≤◌, refl, Result, Err, None}
 use Rattle.hr_base.specs.declared.name.ChunkName.{ChunkName}
 use Rattle.dir_files.specs.declared.folder.FolderRefusal.{FolderRefusal}
 use Rattle.dir_files.specs.declared.folder.FolderRefusal.TheVariants.{Memory, Fault}
 use Rattle.hr_base.specs.Names.{IsChunkName}
-use Rattle.dir_files.specs.Files.{Files, SameAt}
+use Rattle.dir_files.specs.Files.{SameAt}
 use Rattle.record_format.specs.Spelling.{spelling}
 use Rattle.crash_law.specs.Placed.{Placed}
 use Rattle.writer_files.specs.Stocks.{files_of}

@@ -1,7 +1,7 @@
 use Rattle.std.proofs.Common.{true, sym, ◌∙◌, refl}
 use Rattle.hr_base.specs.Names.{class_of_kind}
 use Rattle.writer_files.specs.StockViews.{stock}
-use Rattle.writer_files.proofs.StockLaws.{begun_files, begun_lends, begun_stock, gains_none, gains_some, may_of, refused_files, refused_lends, refused_stock}
+use Rattle.writer_files.proofs.StockLaws.{begun_files, begun_lends, begun_stock, gains_none, gains_some, may_of, refused_files, refused_stock}
 use Rattle.writer_files.proofs.files.WriterFiles.begin.Goals as goal
 
 pub invariant_of-self-in-Some : goal.invariant_of-self-in-Some

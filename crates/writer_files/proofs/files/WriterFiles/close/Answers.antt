@@ -1,4 +1,3 @@
-use Rattle.std.proofs.Common.{◌≡◌, false}
 use Rattle.writer_files.specs.Hands.{taking_list}
 use Rattle.writer_files.specs.StockViews.{stock}
 use Rattle.writer_files.proofs.GiveLaws.{gives_parts}

@@ -1,8 +1,7 @@
 use Rattle.std.proofs.Common.{refl}
-use Rattle.std.proofs.lemmas.List.Elements.{All-head}
-use Rattle.writer_files.specs.Stocks.{Stock, in_hand}
+use Rattle.writer_files.specs.Stocks.{Stock}
 use Rattle.writer_files.specs.StockViews.{stock}
-use Rattle.writer_files.proofs.StockLaws.{IsIdle, idle_first, out_durable, out_file, out_files, out_lends, out_lent, popped_stock}
+use Rattle.writer_files.proofs.StockLaws.{idle_first, out_durable, popped_stock}
 use Rattle.writer_files.proofs.files.WriterFiles.next_sealed.Goals as goal
 
 pub invariant_of-self : goal.invariant_of-self

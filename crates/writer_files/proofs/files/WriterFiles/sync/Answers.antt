@@ -1,7 +1,5 @@
-use Rattle.std.proofs.Common.{◌≡◌}
-use Rattle.writer_files.specs.Stocks.{files_of}
 use Rattle.writer_files.specs.StockViews.{stock}
-use Rattle.writer_files.proofs.StockLaws.{hands_then, quiet_durable, rises_then, stock_files}
+use Rattle.writer_files.proofs.StockLaws.{hands_then, quiet_durable, stock_files}
 use Rattle.writer_files.proofs.files.WriterFiles.sync.Goals as goal
 
 pub returns-in_err-sync_bytes-clause-fits : goal.returns-in_err-sync_bytes-clause-fits

@@ -1,6 +1,5 @@
-use Rattle.std.proofs.Common.{◌≡◌, Bool, Err, ap, refl, sym, ◌∙◌, subst}
+use Rattle.std.proofs.Common.{ap, refl, ◌∙◌}
 use Rattle.std.proofs.lemmas.Bool.{false≢true}
-use Rattle.std.proofs.lemmas.Result.{err_from_is_err_and}
 use Rattle.value_chunk.specs.Calls.{IsChunkKept}
 use Rattle.writer_files.specs.Stocks.{Stock}
 use Rattle.writer_files.specs.StockViews.{stock}
@@ -58,10 +57,11 @@ returns-clause-synced g c =
 pub returns-clause-idle : goal.returns-clause-idle
 returns-clause-idle g c all =
     let first = c.in_ok-sync_full.ensures.idle (idle_full (stock c.args.self.now) all) in
-    let second = c.sync.ensures.idle (idle_taking (stock c.args.self.now) all) in
-    (second.0,
-        same_stock (stock c.args.self.now) (g.F.Folder.port c.sync.new.port) c.sync.new.self c.sync_full.new.full.items (ap g.F.Folder.port (second.2 ∙ first.2)) second.1 first.1,
-        second.2 ∙ first.2)
+    let second = c.sync.ensures.idle (idle_taking (stock c.args.self.now) all) in (
+      second.0,
+      same_stock (stock c.args.self.now) (g.F.Folder.port c.sync.new.port) c.sync.new.self c.sync_full.new.full.items (ap g.F.Folder.port (second.2 ∙ first.2)) second.1 first.1,
+      second.2 ∙ first.2,
+    )
 
 pub returns-clause-kept : goal.returns-clause-kept
 returns-clause-kept g c =

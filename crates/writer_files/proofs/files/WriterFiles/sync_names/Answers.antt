@@ -1,4 +1,4 @@
-use Rattle.std.proofs.Common.{◌≡◌, false, refl}
+use Rattle.std.proofs.Common.{false, refl}
 use Rattle.writer_files.specs.HandCalls.{IsMarkedFrom}
 use Rattle.writer_files.specs.Stocks.{Stock, in_hand}
 use Rattle.writer_files.specs.StockViews.{stock}
@@ -11,10 +11,10 @@ returns-in_err-sync_names-clause-kept g c = hands_same (stock c.args.self.now) (
 pub invariant_of-self-2 : goal.invariant_of-self-2
 invariant_of-self-2 g c = record {
   stocked = λ told.
-    let old = stock c.args.self.now in
-    let new : Stock = record { port = g.F.Folder.port c.sync_names.new.self; taking = c.mark.new.self; full = c.mark_full.new.full.items; fresh = false } in
-    let zip = hands_zip (IsMarkedFrom g.F.Folder.tells new.port.fixed) old new c.mark_full.ensures c.mark.ensures in
-    settled_stock g.F.Folder.tells told old new (c.args.self.now.stocked told) (c.in_ok-sync_names.ensures.synced told) c.requires.synced zip;
+      let old = stock c.args.self.now in
+      let new : Stock = record { port = g.F.Folder.port c.sync_names.new.self; taking = c.mark.new.self; full = c.mark_full.new.full.items; fresh = false } in
+      let zip = hands_zip (IsMarkedFrom g.F.Folder.tells new.port.fixed) old new c.mark_full.ensures c.mark.ensures in
+      settled_stock g.F.Folder.tells told old new (c.args.self.now.stocked told) (c.in_ok-sync_names.ensures.synced told) c.requires.synced zip;
 }
 
 pub returns-clause-durable : goal.returns-clause-durable
