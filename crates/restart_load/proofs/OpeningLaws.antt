@@ -1,5 +1,5 @@
 -- How writers are opened and closed, one for each partition.
-use Rattle.std.proofs.Common.{◌≡◌, ◌≢◌, ◌⊎◌, ℕ, ◌<◌, Bool, true, false, ◌&&◌, ◌||◌, not, List, [], ◌∷◌, ◌++◌, length, get_or, Option, Some, None, is_some, refl, ap, sym, ◌∙◌, subst, inl, inr, arith, zero, suc}
+use Rattle.std.proofs.Common.{◌≡◌, ◌≢◌, ◌⊎◌, ℕ, ◌<◌, Bool, true, List, [], ◌∷◌, ◌++◌, length, get_or, Some, None, refl, ap, sym, ◌∙◌, subst, inl, inr, arith, zero, suc}
 use Rattle.std.specs.Prelude.{slice_get, slice_set}
 use Rattle.std.proofs.lemmas.List.{length-map, map-append}
 use Rattle.std.proofs.lemmas.Option.{slice_get-get_or, slice_get_within}
@@ -7,8 +7,7 @@ use Rattle.hr_base.specs.declared.name.ChunkName.{ChunkName}
 use Rattle.hr_base.specs.declared.limits.Limits.{Limits}
 use Rattle.hr_base.specs.declared.name.Named.{Ghosts as NamedGhosts}
 use Rattle.dir_files.specs.declared.folder.Folder.{Ghosts as FolderGhosts}
-use Rattle.dir_files.specs.Files.{FileState, Files}
-use Rattle.dir_files.specs.Ports.{CanJoin, Joins, Port, SamePort, either_file}
+use Rattle.dir_files.specs.Ports.{Joins, Port, SamePort}
 use Rattle.dir_files.specs.PortStates.{IsGivenBack}
 use Rattle.dir_files.proofs.JoinLaws.{either_same, given_back_joined, given_back_same}
 use Rattle.partition_writer.specs.declared.writer.Writer.{Writer}

@@ -4,7 +4,6 @@ use Rattle.hr_base.specs.declared.limits.Limits.{Limits}
 use Rattle.hr_base.specs.declared.limits.TheConstants.{CHUNK_NO_END, SEQ_END}
 use Rattle.hr_base.specs.Entries.{KeepsLimits}
 use Rattle.hr_base.specs.declared.name.ChunkName.{ChunkName}
-
 use Rattle.crash_law.specs.Accounts.{fresh_account}
 use Rattle.record_replay.specs.declared.play.Replayed.{Replayed}
 use Rattle.writer_files.specs.Stocks.{HasNone, files_of}

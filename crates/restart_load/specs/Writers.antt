@@ -3,7 +3,6 @@ use Rattle.std.specs.Prelude.{◌≡◌, ◌⊎◌, ℕ, ◌+◌, ◌<◌, ◌�
 use Rattle.hr_base.specs.declared.limits.Limits.{Limits}
 use Rattle.hr_base.specs.declared.limits.TheConstants.{CHUNK_NO_END}
 use Rattle.hr_base.specs.declared.name.ChunkName.{ChunkName}
-
 use Rattle.hr_base.specs.declared.name.Named.{Ghosts as NamedGhosts}
 use Rattle.hr_base.specs.Names.{class_of_kind}
 use Rattle.dir_files.specs.declared.folder.Folder.{Ghosts as FolderGhosts}
