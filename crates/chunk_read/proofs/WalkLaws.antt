@@ -59,7 +59,7 @@ parts_of at (r ∷ rs) (h ∷ hs) waiting e =
 -- ---- what is left
 
 -- a damaged header stays damaged, whatever follows
-damaged_stays : (c : Class) (bytes more : List ℕ) → IsDamaged c bytes → IsDamaged c (bytes ++ more)
+pub damaged_stays : (c : Class) (bytes more : List ℕ) → IsDamaged c bytes → IsDamaged c (bytes ++ more)
 damaged_stays c bytes more d =
     let s = header_seq-append c bytes more d.complete in
     let k = header_key-append c bytes more d.complete in
@@ -319,3 +319,14 @@ refuses w v piece at takes same some fed handed s = subst (λ (c : Class). IsDam
 
 pub accepts : (w v : WalkState) (piece : List ℕ) → TakesPiece w v piece → v.class ≡ w.class → v.damage ≡ None → Accepts w piece
 accepts w v piece takes same none fed handed s at is = says_undamaged v at none (fed ++ piece) handed (takes.stands fed handed s) (subst (λ (c : Class). IsDamagedAt c (fed ++ piece) at) (sym same) is)
+
+-- what a walk stands for when all records that wait were handed out
+pub all_taken : (w : WalkState) (fed : List ℕ) (handed : List (ℕ × Record)) → StandsFor w fed handed → StandsFor (record w { waiting = [] }) fed (handed ++ w.waiting)
+all_taken w fed handed s = record {
+  whole = s.whole;
+  left = s.left;
+  split = s.split;
+  records = s.records ∙ sym (append-nil (handed ++ w.waiting));
+  end = s.end;
+  count = s.count;
+}
