@@ -1,3 +1,3 @@
 pub mod PieceLaws
-pub mod ReadLaws
+pub mod Reading
 pub mod WalkLaws

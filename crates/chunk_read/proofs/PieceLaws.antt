@@ -10,7 +10,7 @@ use Rattle.chunk_read.specs.declared.refusal.ReadRefusal.{ReadRefusal}
 use Rattle.chunk_read.specs.declared.refusal.ReadRefusal.TheVariants.{Damaged, Memory}
 use Rattle.chunk_read.specs.Chunks.{IsDamagedAt}
 use Rattle.chunk_read.specs.Pieces.{joined}
-use Rattle.chunk_read.proofs.ReadLaws.{one_damage}
+use Rattle.chunk_read.proofs.Reading.{one_damage}
 use Rattle.chunk_read.proofs.WalkLaws.{damaged_stays}
 
 -- with the next piece

@@ -11,8 +11,8 @@ use Rattle.record_format.specs.Splits.{IsDamaged, IsOfClass, IsTorn}
 use Rattle.record_format.proofs.HeaderLaws.{header_seq-append, header_key-append, header_value-append}
 use Rattle.record_format.proofs.SplitLaws.{one_split, whole_spellings_split, nothing_is_torn}
 use Rattle.record_format.proofs.StepLaws.{damaged_spells_none}
-use Rattle.chunk_read.specs.declared.reading.End.{End}
-use Rattle.chunk_read.specs.declared.reading.End.TheVariants.{Torn, Damaged}
+use Rattle.chunk_read.specs.declared.found.End.{End}
+use Rattle.chunk_read.specs.declared.found.End.TheVariants.{Torn, Damaged}
 use Rattle.chunk_read.specs.declared.walk.Walk.TheInside.{Inside}
 use Rattle.chunk_read.specs.Chunks.{IsChunkOf, IsDamagedAt, with_offsets}
 use Rattle.chunk_read.specs.Readings.{IsRead, damage_of, torn_bytes}

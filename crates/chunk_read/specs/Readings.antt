@@ -5,8 +5,8 @@ use Rattle.hr_base.specs.declared.name.Class.{Class}
 use Rattle.record_format.specs.declared.record.Record.{Record}
 use Rattle.record_format.specs.Spelling.{spellings}
 use Rattle.record_format.specs.Splits.{IsDamaged, IsTorn, Splits}
-use Rattle.chunk_read.specs.declared.reading.End.{End}
-use Rattle.chunk_read.specs.declared.reading.End.TheVariants.{Torn, Damaged}
+use Rattle.chunk_read.specs.declared.found.End.{End}
+use Rattle.chunk_read.specs.declared.found.End.TheVariants.{Torn, Damaged}
 use Rattle.chunk_read.specs.Chunks.{with_offsets}
 
 -- what is left behind the whole records, and begins at this offset

@@ -3,7 +3,7 @@
 ghost use Rattle.std.specs.Prelude.{◌≡◌, ◌⊎◌, ℕ, Err, IfOk, MatchResult};
 ghost use Rattle.chunk_read.specs.Chunks.{IsChunkOf, IsDamagedAt};
 
-use crate::reading::{End, read_records};
+use crate::found::{End, read_records};
 use crate::records::Records;
 use crate::refusal::ReadRefusal;
 use hr_base::Class;

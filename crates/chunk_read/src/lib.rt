@@ -3,8 +3,8 @@
 
 mod chunk;
 mod copies;
+mod found;
 mod pieces;
-mod reading;
 mod records;
 mod refusal;
 mod walk;

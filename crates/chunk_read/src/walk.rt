@@ -8,7 +8,7 @@ ghost use Rattle.chunk_read.specs.Chunks.{IsChunkOf, IsDamagedAt};
 ghost use Rattle.chunk_read.specs.Readings.{IsRead, torn_bytes};
 ghost use Rattle.chunk_read.specs.Walks.{AreAllOf, StandsFor, first_offset, new_walk, pending, whole_to};
 
-use crate::reading::{End, read_records};
+use crate::found::{End, read_records};
 use crate::refusal::ReadRefusal;
 use hr_base::Class;
 use record_format::Record;

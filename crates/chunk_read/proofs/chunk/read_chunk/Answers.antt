@@ -1,7 +1,7 @@
 use Rattle.std.proofs.Common.{ap, inl, subst}
 use Rattle.chunk_read.specs.declared.refusal.ReadRefusal.TheVariants.{Damaged}
 use Rattle.chunk_read.specs.Readings.{IsRead}
-use Rattle.chunk_read.proofs.ReadLaws.{damaged_here, torn_undamaged}
+use Rattle.chunk_read.proofs.Reading.{damaged_here, torn_undamaged}
 use Rattle.chunk_read.proofs.chunk.read_chunk.Goals as goal
 
 pub returns-in-Torn-clause-exact : goal.returns-in-Torn-clause-exact

@@ -4,7 +4,7 @@ use Rattle.chunk_read.specs.declared.refusal.ReadRefusal.TheVariants.{Damaged}
 use Rattle.chunk_read.specs.Chunks.{IsDamagedAt}
 use Rattle.chunk_read.specs.Walks.{StandsFor, WalkState}
 use Rattle.chunk_read.specs.Readings.{damage_of}
-use Rattle.chunk_read.proofs.ReadLaws.{one_damage}
+use Rattle.chunk_read.proofs.Reading.{one_damage}
 use Rattle.chunk_read.proofs.WalkLaws.{Accepts, Refuses, TakesPiece, accepts, refuses, seen, takes_damaged, takes_grown}
 use Rattle.chunk_read.proofs.walk.Walk.feed.Goals as goal
 

@@ -1,6 +1,6 @@
 use Rattle.std.proofs.Common.{◌≤◌, length}
-use Rattle.chunk_read.proofs.ReadLaws.{IsReadTo}
-use Rattle.chunk_read.proofs.reading.read_records.Given as goal
+use Rattle.chunk_read.proofs.Reading.{IsReadTo}
+use Rattle.chunk_read.proofs.found.read_records.Given as goal
 
 -- the records so far were found in front of the rest
 abbrev pub invariant-loop-view : goal.invariant-loop-view

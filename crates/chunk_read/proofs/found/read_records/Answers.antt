@@ -1,6 +1,6 @@
 use Rattle.std.proofs.Common.{◌+◌, ◌-◌, ◌≡◌, length, ap, arith, length-drop}
-use Rattle.chunk_read.proofs.ReadLaws.{all_behind, ends_damaged, ends_torn, one_more_read}
-use Rattle.chunk_read.proofs.reading.read_records.Goals as goal
+use Rattle.chunk_read.proofs.Reading.{all_behind, ends_damaged, ends_torn, one_more_read}
+use Rattle.chunk_read.proofs.found.read_records.Goals as goal
 
 pub loop-view-preserved : goal.loop-view-preserved
 loop-view-preserved c =

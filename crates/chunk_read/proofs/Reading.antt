@@ -13,7 +13,7 @@ use Rattle.record_format.specs.declared.reading.Step.TheVariants.{Torn as TornSt
 use Rattle.record_format.specs.Steps.{IsCutShort, IsStep, IsWhole, record_of}
 use Rattle.record_format.proofs.SplitLaws.{begins_with_none, begins_with_more, begins_and_ends, one_split}
 use Rattle.record_format.proofs.StepLaws.{damaged_spells_none, whole_rest}
-use Rattle.chunk_read.specs.declared.reading.End.TheVariants.{Torn, Damaged}
+use Rattle.chunk_read.specs.declared.found.End.TheVariants.{Torn, Damaged}
 use Rattle.chunk_read.specs.Chunks.{IsDamagedAt, with_offsets}
 use Rattle.chunk_read.specs.Readings.{IsRead}
 
