@@ -14,7 +14,8 @@ abbrev pub EndsAt : Class → ℕ → List ℕ → End → Type 0
 EndsAt class at left (Torn count) = IsTorn class left × (count ≡ length left) × (count < MAX_RECORD_LEN)
 EndsAt class at left (Damaged place) = IsDamaged class left × (place ≡ at)
 
--- the bytes, of which the first one has this offset, split into these records, each with its offset, and this end
+-- The bytes, of which the first one has this offset, split into these records, each with its offset, and this
+-- end.
 pub record IsRead (class : Class) (begin : ℕ) (bytes : List ℕ) (records : List (ℕ × Record)) (end : End) : Type 0 where
   pub whole : List Record
   pub left : List ℕ

@@ -37,7 +37,8 @@ pub record StandsFor (walk : WalkState) (fed : List ℕ) (handed : List (ℕ × 
       (λ at. IsDamaged walk.class left × (at ≡ length (spellings whole)) × (walk.left ≡ []))
   pub count : walk.fed ≡ length fed
 
--- each walk stands for some bytes and some records, and the torn bytes that it keeps are fewer than a record may have
+-- Each walk stands for some bytes and some records, and the torn bytes that it keeps are fewer than a record may
+-- have.
 pub record IsWalk (walk : WalkState) : Type 0 where
   pub bytes : List ℕ
   pub handed : List (ℕ × Record)

@@ -12,8 +12,8 @@ use hr_base::Class;
 use record_format::Record;
 use std::alloc::{AllocError, Global};
 
-/// Reads the bytes of a chunk file of the class that come in these pieces: however they are cut, the answer is that of
-/// `read_chunk`.
+/// Reads the bytes of a chunk file of the class that come in these pieces. However they are cut, the answer is
+/// that of `read_chunk`.
 pub fn read_pieces(alloc: Global, pieces: &[Vec<u8>], class: Class) -> Result<Chunk, ReadRefusal>
     requires { length (joined pieces.now) < 2 ^ 64 }
     ensures read { IfOk result (λ chunk. IsChunkOf class (joined pieces.now) chunk) }

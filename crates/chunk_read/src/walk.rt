@@ -35,11 +35,21 @@ impl Model for Walk {
 
     ghost Value = { WalkState };
 
-    ghost view = { λ it.
-        record { class = it.class; fed = it.fed; waiting = it.waiting.items; left = it.left.items; damage = it.damage } };
+    ghost view = { λ it. record {
+      class = it.class;
+      fed = it.fed;
+      waiting = it.waiting.items;
+      left = it.left.items;
+      damage = it.damage;
+    } };
 
-    ghost invariant = { λ it. IsWalk
-        (record { class = it.class; fed = it.fed; waiting = it.waiting.items; left = it.left.items; damage = it.damage }) };
+    ghost invariant = { λ it. IsWalk (record {
+      class = it.class;
+      fed = it.fed;
+      waiting = it.waiting.items;
+      left = it.left.items;
+      damage = it.damage;
+    }) };
 }
 
 impl Walk {
@@ -57,8 +67,8 @@ impl Walk {
         }
     }
 
-    /// Takes the next piece of the file, of any length. After `Memory` nothing of it was taken, and it may be fed again.
-    /// After `Damaged` each feed answers the same.
+    /// Takes the next piece of the file, of any length. After `Memory` nothing of it was taken, and it may be fed
+    /// again. After `Damaged` each feed answers the same.
     pub fn feed(&mut self, piece: &[u8]) -> Result<(), ReadRefusal>
         requires { self.old.fed + length piece.now < 2 ^ 64 }
 
@@ -142,8 +152,8 @@ impl Walk {
     }
 }
 
-// Takes the piece behind `left`, which begins at this offset. The records that are whole now wait, and what is left
-// behind them is kept, unless it is damaged. Where memory runs out, all is as before.
+// Takes the piece behind `left`, which begins at this offset. The records that are whole now wait, and what is
+// left behind them is kept, unless it is damaged. Where memory runs out, all is as before.
 fn take_in(
     waiting: &mut VecDeque<(u64, Record)>,
     left: &mut Vec<u8>,
@@ -152,7 +162,8 @@ fn take_in(
     begin: u64,
 ) -> Result<End, AllocError>
     requires { begin + length left.old.items + length piece.now < 2 ^ 64 }
-    ensures taken { IfOk result (λ end. (found : List (ℕ × Record)) × (waiting.new.items ≡ waiting.old.items ++ found)
+    ensures taken { IfOk result (λ end. (found : List (ℕ × Record))
+        × (waiting.new.items ≡ waiting.old.items ++ found)
         × IsRead class begin (left.old.items ++ piece.now) found end
         × (left.new.items ≡ torn_bytes (left.old.items ++ piece.now) end)) }
     ensures err { OnErr result ((waiting.new.items ≡ waiting.old.items) × (left.new.items ≡ left.old.items)) }
@@ -175,8 +186,8 @@ fn take_in(
     }
 }
 
-// Adds the records that the bytes begin with to those that wait, and says how the bytes end. The first byte has the
-// offset `begin`.
+// Adds the records that the bytes begin with to those that wait, and says how the bytes end. The first byte has
+// the offset `begin`.
 fn add_records(
     waiting: &mut VecDeque<(u64, Record)>,
     bytes: &[u8],
@@ -184,7 +195,8 @@ fn add_records(
     begin: u64,
 ) -> Result<End, AllocError>
     requires { begin + length bytes.now < 2 ^ 64 }
-    ensures read { IfOk result (λ end. (found : List (ℕ × Record)) × (waiting.new.items ≡ waiting.old.items ++ found)
+    ensures read { IfOk result (λ end. (found : List (ℕ × Record))
+        × (waiting.new.items ≡ waiting.old.items ++ found)
         × IsRead class begin bytes.now found end) }
     ensures err { OnErr result (waiting.new.items ≡ waiting.old.items) }
 {
