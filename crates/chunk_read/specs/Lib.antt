@@ -1,1 +1,4 @@
 pub mod Chunks
+pub mod Pieces
+pub mod Readings
+pub mod Walks

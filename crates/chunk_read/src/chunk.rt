@@ -3,11 +3,10 @@
 ghost use Rattle.std.specs.Prelude.{◌≡◌, ◌⊎◌, ℕ, Err, IfOk, MatchResult};
 ghost use Rattle.chunk_read.specs.Chunks.{IsChunkOf, IsDamagedAt};
 
-use crate::copies::copied;
+use crate::found::{End, read_records};
 use crate::records::Records;
 use crate::refusal::ReadRefusal;
 use hr_base::Class;
-use record_format::{Step, decode};
 use std::alloc::Global;
 
 /// What a chunk file holds.
@@ -30,22 +29,12 @@ pub fn read_chunk(alloc: Global, bytes: &[u8], class: Class) -> Result<Chunk, Re
         → MatchResult result (λ _. ⊥)
         (λ e. (e ≡ ReadRefusal.Damaged at) ⊎ (e ≡ ReadRefusal.Memory)) }
 {
-    let mut records = Vec::new(alloc);
-    let mut rest = bytes;
-    loop {
-        let at = (bytes.len() - rest.len()) as u64;
-        match decode(rest, class) {
-            Step::Whole(view, count) => {
-                records.push((at, copied(alloc, view)?))?;
-                rest = &rest[count..];
-            }
-            Step::Torn => {
-                return Ok(Chunk {
-                    records: Records::of(records),
-                    rest: rest.len() as u64,
-                });
-            }
-            Step::Damaged(_) => return Err(ReadRefusal::Damaged { at }),
-        }
+    let found = read_records(alloc, bytes, class, 0)?;
+    match found.end {
+        End::Torn(rest) => Ok(Chunk {
+            records: Records::of(found.records),
+            rest: rest as u64,
+        }),
+        End::Damaged(at) => Err(ReadRefusal::Damaged { at }),
     }
 }

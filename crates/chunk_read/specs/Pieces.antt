@@ -1,0 +1,8 @@
+-- Bytes that come in pieces.
+use Rattle.std.specs.Prelude.{ℕ, List, Vec}
+use Rattle.std.specs.List.{flat_map}
+use Rattle.std.specs.declared.alloc.Global.{Global}
+
+-- the bytes of the pieces, one after another
+abbrev pub joined : List (Vec ℕ Global) → List ℕ
+joined pieces = flat_map (λ piece. piece.items) pieces
